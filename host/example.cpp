@@ -1,6 +1,6 @@
-// The 22 turns of the specification's example, stepped one by one on a lock that the host keeps: what each step did, and who holds the lock after it.
-// Then two threads of a lock with a ticket root, whose counters start at 65,535; why a thread waits, for two more locks; and what the first lock
-// has counted for each domain.
+// The 22 turns of the specification's example, stepped one by one on a host's lock: what each step did, and who holds the lock after it.
+// Then two threads of a lock with a ticket root, whose counters start at 65,535; why a thread waits, for two more locks; and the first lock's
+// counters of each domain.
 #include "hmcs.hpp"
 
 #include <cinttypes>
@@ -37,7 +37,7 @@ static const char *standing(const hmcs::Lock &lock, std::uint16_t thread) {
     }
 }
 
-// The chain of a thread in words.
+// The chain of a thread as text.
 static bool explain(const hmcs::Lock &lock, std::uint32_t thread) {
     const hmcs::ChainResult chain = lock.chain(thread);
     if (chain.refused()) {
@@ -52,7 +52,7 @@ static bool explain(const hmcs::Lock &lock, std::uint32_t thread) {
     return true;
 }
 
-// Entries, tenures and the longest tenure of each domain but the root.
+// Entries, tenures and the longest tenure of each domain except the root.
 static void counted(const hmcs::Lock &lock) {
     for (std::uint32_t domain = 1; domain < lock.tree().domains; ++domain) {
         const hmcs::Tenures t = lock.tenures(domain);

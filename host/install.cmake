@@ -1,9 +1,8 @@
-# What `cmake --install BUILD --prefix PREFIX` writes: headers, archive, the command, documents, and the files by which CMake and pkg-config find
-# them.
-# These files find each other from where they stand, so the prefix may be chosen, or the whole moved, after the build.
+# What `cmake --install BUILD --prefix PREFIX` writes: headers, archive, the command, documents, and the files that let CMake and pkg-config find them.
+# These files use relative paths, so the prefix may be chosen, or everything moved, after the build.
 include(CMakePackageConfigHelpers)
 
-# From the folder of the pkg-config file to the headers; a folder that was given as an absolute path stays one.
+# From the folder of the pkg-config file to the headers; an absolute path stays absolute.
 if(IS_ABSOLUTE "${CMAKE_INSTALL_LIBDIR}" OR IS_ABSOLUTE "${CMAKE_INSTALL_INCLUDEDIR}")
   set(pc_includedir "${CMAKE_INSTALL_FULL_INCLUDEDIR}")
 else()
@@ -26,5 +25,5 @@ install(FILES "${CMAKE_CURRENT_BINARY_DIR}/hmcs.pc" "${CMAKE_CURRENT_BINARY_DIR}
 install(FILES "${CMAKE_CURRENT_BINARY_DIR}/hmcsConfigVersion.cmake" DESTINATION "${package}")
 install(TARGETS hmcs hmcs_shared EXPORT hmcs LIBRARY DESTINATION "${CMAKE_INSTALL_LIBDIR}")
 install(EXPORT hmcs NAMESPACE hmcs:: FILE hmcsConfig.cmake DESTINATION "${package}")
-# Python finds the library and the command from where the package stands.
+# Python finds the library and the command relative to the package.
 install(DIRECTORY python/hmcs DESTINATION "lib/python3/dist-packages" FILES_MATCHING PATTERN "*.py" PATTERN "py.typed")

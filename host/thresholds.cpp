@@ -1,4 +1,4 @@
-// Which threshold? One tree, one schedule, four thresholds of its sockets: what a studio reads off before it picks one.
+// Choosing a threshold: one tree, one schedule, four thresholds of its sockets, as a studio would compare them.
 #include "hmcs.hpp"
 
 #include <cinttypes>

@@ -1,4 +1,4 @@
-// A lock of your own, traced and checked, with real threads. The lock is an MCS lock: a queue at the root and nothing below it.
+// Your own lock, traced and checked with real threads. The lock is an MCS lock: a queue at the root and nothing below it.
 #include "hmcs_trace.hpp"
 
 #include <cstdint>
@@ -6,7 +6,7 @@
 #include <thread>
 #include <vector>
 
-// Records are numbered as threads are; 0 stands for no record, and record r is r + 1.
+// Records have the numbers of their threads. 0 means no record, and record r is stored as r + 1.
 template <class Trace> class MyLock {
   public:
     explicit MyLock(std::uint32_t threads) : trace(threads), records_(threads) {}
@@ -34,7 +34,7 @@ template <class Trace> class MyLock {
             return hmcs::Kind::other_move;
         });
         const auto wait = [&](auto at) { return at.load(records_[me].status) == locked ? hmcs::Kind::stay : hmcs::Kind::root_entry; };
-        while (trace.step(me, root, wait) == hmcs::Kind::stay) { // Wait: every look is a step
+        while (trace.step(me, root, wait) == hmcs::Kind::stay) { // Wait: every read is a step
             std::this_thread::yield();
         }
     }
@@ -59,7 +59,7 @@ template <class Trace> class MyLock {
             if (alone) {
                 return;
             }
-            while (trace.step(me, root, look) == hmcs::Kind::stay) { // Linger: every look is a step
+            while (trace.step(me, root, look) == hmcs::Kind::stay) { // Linger: every read is a step
                 std::this_thread::yield();
             }
         }
@@ -82,7 +82,7 @@ template <class Trace> class MyLock {
     Word tail_;
 };
 
-// Compares the steps with the model's, kinds and domains, and looks at who is left at the end.
+// Compares kinds and domains of the steps with the model's, and checks that every thread is idle at the end.
 bool right(const hmcs::Tree &tree, const hmcs::trace::Written &written) {
     const hmcs::trace::Steps &steps = written.steps;
     hmcs_state state = hmcs::Lock(tree).state();
@@ -101,7 +101,7 @@ bool right(const hmcs::Tree &tree, const hmcs::trace::Written &written) {
 }
 
 template <class Trace> bool try_with(const char *name) {
-    const hmcs::Tree tree = hmcs::read_tree("(#4)").tree; // four threads, at home at the root
+    const hmcs::Tree tree = hmcs::read_tree("(#4)").tree; // four threads whose home is the root
     const std::uint32_t threads = tree.words().threads;
     MyLock<Trace> lock(threads);
     int entries = 0;

@@ -1,5 +1,5 @@
-// Lyumadeon for C++17: a lock that the host keeps and steps, runs, and lock files. Only the allocator throws exceptions, and the first use of a library
-// that does not fit this header.
+// Lyumadeon for C++17: a lock owned by the host, with its steps and runs, and lock files. Only two things throw: the allocator, and the first use of a
+// library that does not match this header.
 #ifndef HMCS_HPP
 #define HMCS_HPP
 
@@ -22,7 +22,7 @@
 
 namespace hmcs {
 
-// Number and place of an answer; 0 and 0 for accepted. It is not a bool, so that nobody reads it the wrong way round.
+// Number and place of an answer; 0 and 0 for accepted. It is not a bool, so nobody can read it the wrong way round.
 struct [[nodiscard]] Refusal {
     std::uint32_t number = 0;
     std::size_t place = 0; // for 15, 25, 26 and 29 a position in a text, a journal or a list of steps of any length
@@ -32,7 +32,7 @@ struct [[nodiscard]] Refusal {
     const char *text() const noexcept { return hmcs_refusal_text(number); }
 };
 
-// What every result begins with.
+// The first fields of every result.
 struct [[nodiscard]] Result {
     Refusal refusal;
 
@@ -40,7 +40,7 @@ struct [[nodiscard]] Result {
     bool refused() const noexcept { return refusal.refused(); }
 };
 
-// Where a thread stands: a row of the step table (enum hmcs_row) and the parts that it has; the others are 0.
+// Where a thread is: a row of the step table (enum hmcs_row) and the parts that the row has; the others are 0.
 struct Place {
     std::uint8_t row = HMCS_ROW_IDLE;
     std::uint8_t domain = 0;
@@ -48,7 +48,7 @@ struct Place {
     std::uint64_t word = 0;
 };
 
-// The place of a thread, which is below HMCS_THREADS.
+// The place of a thread. Its number must be below HMCS_THREADS.
 inline Place place(const hmcs_state &state, std::size_t thread) noexcept {
     return Place{state.places.rows[thread], state.places.domains[thread], state.places.peers[thread], state.places.words[thread]};
 }
@@ -60,7 +60,7 @@ inline void set_place(hmcs_state &state, std::size_t thread, const Place &place)
     state.places.words[thread] = place.word;
 }
 
-// A state as versions 2.x of hmcs.h laid it out, for what a host saved then; its places were an array of structs.
+// The layout of a state in versions 2.x of hmcs.h, for states that a host saved then. Its places were an array of structs.
 struct StateOfVersion2 {
     struct PlaceOfVersion2 {
         std::uint8_t row;
@@ -80,7 +80,7 @@ struct StateOfVersion2 {
 };
 static_assert(sizeof(StateOfVersion2) == 8968, "the layout of version 2");
 
-// The same state as it is laid out now. Any state is read; the calls refuse by 10 what is not well formed.
+// The same state in the current layout. Any state is read; the calls refuse by 10 what is not well formed.
 inline hmcs_state from_version_2(const StateOfVersion2 &saved) noexcept {
     hmcs_state state{};
     std::copy(std::begin(saved.tails), std::end(saved.tails), std::begin(state.tails));
@@ -117,7 +117,7 @@ inline std::string version_text(std::uint32_t number) {
     return std::to_string(number / 10000) + "." + std::to_string(number / 100 % 100) + "." + std::to_string(number % 100);
 }
 
-// Throws std::runtime_error where the library that is linked does not fit this header; it is asked once.
+// Throws std::runtime_error if the linked library does not match this header. It checks once.
 inline void check_library() {
     static const bool fits = hmcs_library_fits() != 0;
     if (!fits) {
@@ -128,33 +128,33 @@ inline void check_library() {
     }
 }
 
-// A threshold, or 0, which is refused (8), where it does not fit.
+// The threshold, or 0, which is refused (8), if it does not fit.
 inline std::uint16_t threshold_of(std::uint32_t threshold) noexcept { return static_cast<std::uint16_t>(threshold <= 65535 ? threshold : 0); }
 
-// A thread number, or 65,535, which is refused (12), where it does not fit.
+// The thread number, or 65,535, which is refused (12), if it does not fit.
 inline std::uint16_t thread_of(std::uint32_t thread) noexcept { return static_cast<std::uint16_t>(std::min<std::uint32_t>(thread, 65535)); }
 
 } // namespace detail
 
-// What stands at the root of a tree.
+// The kind of lock at the root of a tree.
 enum class RootKind { queue, ticket };
 
-// A tree that grows domain by domain and thread by thread, with a queue at its root unless another kind is given. What does not fit is
-// counted and not stored, so that the calls refuse it.
+// A tree, built domain by domain and thread by thread, with a queue at its root unless another kind is given. What does not fit is counted but not
+// stored, so the calls refuse it.
 class Tree {
   public:
     Tree() : Tree(RootKind::queue) {}
 
     explicit Tree(RootKind root) : words_{} {
-        detail::check_library(); // every call takes a tree, or asks itself
+        detail::check_library(); // every call takes a tree, or checks itself
         words_.domains = 1;
         words_.ticket_root = root == RootKind::ticket ? 1 : 0;
     }
 
     RootKind root() const noexcept { return words_.ticket_root != 0 ? RootKind::ticket : RootKind::queue; }
 
-    // Adds a domain below another and returns its number. What does not fit is refused and never cut: a parent above 255 as 255 is (6), a threshold
-    // above 65,535 as 0 is (8). A domain that gets no thread, in it or below it, is refused by 16.
+    // Adds a domain below another and returns its number. Numbers that do not fit are refused, not truncated: a parent above 255 is refused like 255 (6),
+    // a threshold above 65,535 like 0 (8). A domain without a thread in it or below it is refused by 16.
     std::uint32_t add_domain(std::uint32_t parent, std::uint32_t threshold) noexcept {
         const std::uint32_t d = words_.domains++;
         if (d < HMCS_DOMAINS) {
@@ -164,7 +164,7 @@ class Tree {
         return d;
     }
 
-    // Adds a thread in a domain and returns its number. A home above 255 is refused as 255 is (9).
+    // Adds a thread in a domain and returns its number. A home above 255 is refused like 255 (9).
     std::uint32_t add_thread(std::uint32_t home) noexcept {
         const std::uint32_t i = words_.threads++;
         if (i < HMCS_THREADS) {
@@ -175,7 +175,7 @@ class Tree {
 
     const hmcs_tree &words() const noexcept { return words_; }
 
-    // The tree that has these words.
+    // The tree with these fields.
     static Tree of(const hmcs_tree &words) {
         Tree tree;
         tree.words_ = words;
@@ -183,7 +183,7 @@ class Tree {
     }
 
   private:
-    // No domain has the number 255, so a number that does not fit is refused and not cut.
+    // No domain has the number 255, so a number that does not fit is refused, not truncated.
     static std::uint8_t byte_of(std::uint32_t domain) noexcept { return static_cast<std::uint8_t>(std::min<std::uint32_t>(domain, 255)); }
 
     hmcs_tree words_;
@@ -202,13 +202,13 @@ struct [[nodiscard]] RunResult : Result {
 // Waits of attempts that finished within a run. Without an attempt all five are 0.
 struct Waits {
     std::uint64_t attempts = 0;
-    std::uint64_t total = 0;     // other threads' entries, over all attempts; UINT64_MAX where it is larger
+    std::uint64_t total = 0;     // other threads' entries, over all attempts; UINT64_MAX if it is larger
     std::uint64_t largest = 0;   // of one attempt
     std::uint64_t numerator = 0; // of the mean, total over attempts in lowest terms
     std::uint64_t denominator = 0;
 };
 
-// The waits of both: attempts and totals added, the larger largest wait, and the mean in lowest terms.
+// The waits of both together: the sum of attempts and totals, the larger of the largest waits, and the mean in lowest terms.
 inline Waits joined(const Waits &a, const Waits &b) noexcept {
     const auto sum = [](std::uint64_t x, std::uint64_t y) { return x > UINT64_MAX - y ? UINT64_MAX : x + y; };
     Waits waits{sum(a.attempts, b.attempts), sum(a.total, b.total), std::max(a.largest, b.largest), 0, 0};
@@ -220,7 +220,7 @@ inline Waits joined(const Waits &a, const Waits &b) noexcept {
     return waits;
 }
 
-// The attempts under way: for each thread 0 where it has none, otherwise one more than the other threads' entries since it began.
+// The attempts under way: for each thread 0 if it has none, otherwise one more than the other threads' entries since it began.
 using UnderWay = std::array<std::uint64_t, HMCS_THREADS>;
 
 // A run with waits; if refused, no rows.
@@ -235,14 +235,14 @@ struct [[nodiscard]] WaitsResult {
 
 // The waits of several runs one after another.
 struct WaitsSoFar {
-    std::vector<Waits> threads;           // one for each thread: its attempts that have finished
+    std::vector<Waits> threads;           // one for each thread: its finished attempts
     Waits all;                            // of all threads together
-    std::vector<std::uint64_t> under_way; // one for each thread: its attempt that has not finished, as UnderWay has it
+    std::vector<std::uint64_t> under_way; // one for each thread: its unfinished attempt, as in UnderWay
 };
 
 namespace detail {
 
-// The state after a run, and what the run said.
+// The state after a run, and its result.
 template <typename Reply> void keep(const Reply &reply, hmcs_state &state, RunResult &result) {
     state = reply.state;
     result.refusal = Refusal{reply.number, reply.place};
@@ -252,13 +252,13 @@ template <typename Reply> void keep(const Reply &reply, hmcs_state &state, RunRe
 
 } // namespace detail
 
-// Runs a schedule from a state and the attempts under way, both of which the host keeps: from attempts under way that are all 0, the waits of those
-// that begin and finish within the run. Both are then those after the run; if refused, they are as they were.
+// Runs a schedule from a state and the attempts under way, both owned by the host, and updates both; if refused, they are unchanged. If all attempts under
+// way are 0, the waits are those of attempts that begin and finish within the run.
 inline WaitsResult run_waits(const Tree &tree, hmcs_state &state, UnderWay &under_way, const std::uint16_t *schedule, std::size_t length) {
     WaitsResult result;
     std::vector<std::uint64_t> numbers((HMCS_THREADS + 1) * HMCS_NUMBERS_PER_WAITS_ROW);
-    result.threads.reserve(HMCS_THREADS + 1);                      // after the call nothing allocates, so that no result is lost
-    result.run.trace.resize(std::min<std::size_t>(length, 65536)); // a longer schedule is refused (11) before the trace is looked at
+    result.threads.reserve(HMCS_THREADS + 1);                      // nothing allocates after the call, so no result is lost
+    result.run.trace.resize(std::min<std::size_t>(length, 65536)); // a longer schedule is refused (11) before the trace is checked
     const hmcs_waits_reply reply = hmcs_run_waits_on(tree.words(), state, schedule, length, result.run.trace.data(), result.run.trace.size(), numbers.data(),
                                                      numbers.size(), under_way.data());
     detail::keep(reply, state, result.run);
@@ -292,7 +292,7 @@ inline const char *text(Kind kind) noexcept { return hmcs_kind_text(static_cast<
 // What a step did; if refused, kind stay and domain 0.
 struct [[nodiscard]] StepResult : Result {
     Kind kind = Kind::stay;
-    std::uint32_t domain = 0; // where it was; the thread's home where it was idle or inside
+    std::uint32_t domain = 0; // where the step happened; the thread's home if it was idle or inside
 };
 
 // Why a thread waits; if refused, no threads.
@@ -303,19 +303,19 @@ struct [[nodiscard]] ChainResult : Result {
 // What one step of a run was: a row of hmcs_run_kinds.
 struct Told {
     Kind kind = Kind::stay;
-    std::uint32_t domain = 0; // where it was; the thread's home where it was idle or inside
+    std::uint32_t domain = 0; // where the step happened; the thread's home if it was idle or inside
 };
 
-// A run that tells its steps; if refused, none.
+// A run with the kind and domain of each step; if refused, no steps.
 struct [[nodiscard]] KindsResult {
     RunResult run;
-    std::vector<Told> steps; // one for each turn, in the schedule's order
+    std::vector<Told> steps; // one for each turn, in schedule order
 
     bool accepted() const noexcept { return run.accepted(); }
     bool refused() const noexcept { return run.refused(); }
 };
 
-// Whether every call takes up a state that was kept: refused by 4 to 9 and 16 for its tree, and by 10.
+// Whether the calls accept a saved state: refused by 4 to 9 and 16 for its tree, and by 10.
 inline Refusal check_state(const Tree &tree, const hmcs_state &state) {
     const hmcs_answer answer = hmcs_check_state(tree.words(), state);
     return Refusal{answer.number, answer.place};
@@ -326,17 +326,17 @@ inline Refusal check_state(const Tree &tree, const hmcs_state &state) {
 struct Tenures {
     std::uint64_t entries = 0; // of the threads under the domain
     std::uint64_t tenures = 0; // that have started
-    std::uint64_t longest = 0; // of them, the running one included; at most the domain's threshold
+    std::uint64_t longest = 0; // of them, including the current one; at most the domain's threshold
 };
 
-// A lock that the host keeps: a tree and a state, stepped in place.
+// A lock owned by the host: a tree and a state, stepped in place.
 class Lock {
   public:
-    // A fresh lock, with the counters of a ticket root at the start. refusal() tells whether the tree was accepted; if refused, the state is fresh
-    // as well, and every step is refused.
+    // A fresh lock, with the counters of a ticket root at the start. refusal() says whether the tree was accepted. If refused, the state is fresh
+    // too, and every step is refused.
     explicit Lock(const Tree &tree, std::uint16_t start = 0) : tree_(tree.words()), state_{} { refusal_ = of(hmcs_fresh_in_place(tree_, &state_, start)); }
 
-    // A lock whose state was kept. It is tested: a state that is not well formed is refused by 10, and then every step is refused as well.
+    // A lock with a saved state. A state that is not well formed is refused by 10, and then every step is refused too.
     static Lock saved(const Tree &tree, const hmcs_state &state) {
         Lock lock(tree);
         lock.state_ = state;
@@ -350,17 +350,17 @@ class Lock {
     const hmcs_state &state() const noexcept { return state_; }
     const hmcs_tree &tree() const noexcept { return tree_; }
 
-    // One step of a thread. If refused, the state is as it was. A number above 65,535 is refused as 65,535 is.
+    // One step of a thread. If refused, the state is unchanged. A number above 65,535 is refused like 65,535.
     StepResult step(std::uint32_t thread) noexcept {
         const hmcs_step_answer a = hmcs_step_in_place(tree_, &state_, detail::thread_of(thread));
         under_way_known_ = under_way_known_ && a.number != 0;
         return StepResult{{Refusal{a.number, a.place}}, static_cast<Kind>(a.kind), a.domain};
     }
 
-    // Runs a schedule. If refused, the state is as it was and no step is taken.
+    // Runs a schedule. If refused, the state is unchanged and no step is taken.
     RunResult run(const std::uint16_t *schedule, std::size_t length) {
         RunResult result;
-        result.trace.resize(std::min<std::size_t>(length, 65536)); // a longer schedule is refused (11) before the trace is looked at
+        result.trace.resize(std::min<std::size_t>(length, 65536)); // a longer schedule is refused (11) before the trace is checked
         const hmcs_run_reply reply = hmcs_run(tree_, state_, schedule, length, result.trace.data(), result.trace.size());
         detail::keep(reply, state_, result);
         under_way_known_ = under_way_known_ && result.counts.steps == 0;
@@ -372,12 +372,12 @@ class Lock {
     RunResult run(std::span<const std::uint16_t> schedule) { return run(schedule.data(), schedule.size()); }
 #endif
 
-    // Runs a schedule, and tells kind and domain of each step. If refused, the state is as it was and no step is taken.
+    // Runs a schedule, and returns kind and domain of each step. If refused, the state is unchanged and no step is taken.
     KindsResult run_kinds(const std::uint16_t *schedule, std::size_t length) {
         KindsResult result;
-        const std::size_t room = std::min<std::size_t>(length, 65536); // a longer schedule is refused (11) before the buffers are looked at
+        const std::size_t room = std::min<std::size_t>(length, 65536); // a longer schedule is refused (11) before the buffers are checked
         std::vector<std::uint16_t> numbers(room * HMCS_NUMBERS_PER_KINDS_ROW);
-        result.steps.reserve(room); // after the call nothing allocates, so that no result is lost
+        result.steps.reserve(room); // nothing allocates after the call, so no result is lost
         result.run.trace.resize(room);
         const hmcs_kinds_reply reply =
             hmcs_run_kinds(tree_, state_, schedule, length, result.run.trace.data(), result.run.trace.size(), numbers.data(), numbers.size());
@@ -395,15 +395,15 @@ class Lock {
     KindsResult run_kinds(std::span<const std::uint16_t> schedule) { return run_kinds(schedule.data(), schedule.size()); }
 #endif
 
-    // Runs a schedule, and gives the waits of the attempts that finish within it. The lock keeps the attempts under way, so that the waits go on
-    // from one such run to the next; after a step or a run without waits they are not known, and attempts that began before it are not counted. If
-    // refused, the state is as it was and no step is taken.
+    // Runs a schedule, and returns the waits of the attempts that finish within it. The lock keeps the attempts under way, so waits continue
+    // from one such run to the next. After a step or a run without waits they are unknown, and attempts that began before it are not counted. If
+    // refused, the state is unchanged and no step is taken.
     WaitsResult run_waits(const std::uint16_t *schedule, std::size_t length) {
         if (!under_way_known_) {
             under_way_.fill(0);
             under_way_known_ = true;
         }
-        waits_.resize(threads()); // before the call, so that nothing allocates after it
+        waits_.resize(threads()); // before the call, so nothing allocates after it
         WaitsResult result = hmcs::run_waits(Tree::of(tree_), state_, under_way_, schedule, length);
         if (result.accepted()) {
             std::transform(result.threads.begin(), result.threads.end(), waits_.begin(), waits_.begin(), joined);
@@ -428,7 +428,7 @@ class Lock {
         return result;
     }
 
-    // The chain of threads that a thread waits for. A number above 65,535 is refused as 65,535 is. A state that was reached by steps and runs
+    // The chain of threads that a thread waits for. A number above 65,535 is refused like 65,535. A state that was reached by steps and runs
     // has a chain for each of its threads.
     ChainResult chain(std::uint32_t thread) const {
         ChainResult result;
@@ -442,7 +442,7 @@ class Lock {
         return result;
     }
 
-    // What has been counted for a domain. For the root nothing is counted: all three are 0, as for a number that is not a domain of the tree.
+    // The counters of a domain. All three are 0 for the root, and for a number that is not a domain of the tree.
     Tenures tenures(std::uint32_t domain) const noexcept {
         if (domain == 0 || domain >= tree_.domains || domain >= HMCS_DOMAINS) {
             return Tenures{};
@@ -476,10 +476,10 @@ class Lock {
 
 // The allowances of a tree's domains; if refused, none.
 struct [[nodiscard]] AllowancesResult : Result {
-    std::vector<std::uint64_t> domains; // one for each; 0 for the root, and UINT64_MAX where it is larger
+    std::vector<std::uint64_t> domains; // one for each; 0 for the root, and UINT64_MAX if it is larger
 };
 
-// How many entries the threads under a domain may make while another member of its parent stands ungranted.
+// How many entries the threads under a domain may make while another member of its parent is waiting for its grant.
 inline AllowancesResult allowances(const Tree &tree) {
     AllowancesResult result;
     result.domains.resize(HMCS_DOMAINS);
@@ -491,12 +491,12 @@ inline AllowancesResult allowances(const Tree &tree) {
 
 // The longest waits of a tree's threads; if refused, none.
 struct [[nodiscard]] WaitBoundsResult : Result {
-    std::vector<std::uint64_t> threads; // one for each, in entries of others; UINT64_MAX where it is larger
+    std::vector<std::uint64_t> threads; // one for each, in entries of others; UINT64_MAX if it is larger
 
     std::uint64_t largest() const { return threads.empty() ? 0 : *std::max_element(threads.begin(), threads.end()); }
 };
 
-// How many entries of others each thread waits for at most in one attempt, as long as nobody stalls.
+// The largest number of entries of others that each thread waits for in one attempt, as long as nobody stalls.
 inline WaitBoundsResult wait_bounds(const Tree &tree) {
     WaitBoundsResult result;
     result.threads.resize(HMCS_THREADS);
@@ -506,13 +506,13 @@ inline WaitBoundsResult wait_bounds(const Tree &tree) {
     return result;
 }
 
-// In how many rounds every thread enters, and how many turns these are by round robin; 0 if refused, UINT64_MAX where it is larger.
+// The number of rounds within which every thread enters, and how many turns these are with round robin; 0 if refused, UINT64_MAX if it is larger.
 struct [[nodiscard]] RoundsResult : Result {
     std::uint64_t rounds = 0;
     std::uint64_t turns = 0;
 };
 
-// A round is a stretch of a schedule in which every thread takes a turn, or more than one.
+// A round is a stretch of a schedule in which every thread takes one or more turns.
 inline RoundsResult rounds(const Tree &tree) {
     const hmcs_rounds_reply reply = hmcs_rounds(tree.words());
     RoundsResult result;
@@ -529,7 +529,7 @@ struct [[nodiscard]] Row : Result {
 
 // The result of the whole call; if the tree is refused, there are no rows.
 struct [[nodiscard]] ManyResult : Result {
-    std::vector<Row> rows; // one for each schedule, in their order
+    std::vector<Row> rows; // one for each schedule, in order
 };
 
 // Many schedules on one tree, each from its own fresh lock. Traces are not kept.
@@ -546,7 +546,7 @@ inline ManyResult run_many(const Tree &tree, const std::uint32_t *lengths, std::
 }
 
 inline ManyResult run_many(const Tree &tree, const std::vector<std::vector<std::uint16_t>> &schedules) {
-    constexpr std::size_t longest = 65537; // a longer schedule is refused (11) as this one is
+    constexpr std::size_t longest = 65537; // a longer schedule is refused (11) like one of this length
     std::vector<std::uint32_t> lengths;
     std::vector<std::uint16_t> entries;
     for (const std::vector<std::uint16_t> &schedule : schedules) {
@@ -567,11 +567,11 @@ inline Refusal check_journal(const Tree &tree, const std::vector<std::uint8_t> &
 
 // What the check of steps found.
 struct [[nodiscard]] StepsResult : Result {
-    std::size_t checked = 0; // steps found right: all of them if accepted, else those before the place; 0 where 4 to 10, 16 or 30 refuses
+    std::size_t checked = 0; // right steps: all of them if accepted, else those before the place; 0 if refused by 4 to 10, 16 or 30
 };
 
-// Checks steps that were taken down by thread, kind and domain, from a state that the host keeps, which is then the one before the first wrong step, or the one
-// after the last: a trace may be checked in pieces. Refused by 4 to 10, 16 or 30, the state is as it was.
+// Checks recorded steps (thread, kind and domain) from a state owned by the host. The state becomes the one before the first wrong step, or the one after
+// the last, so a trace may be checked in pieces. If refused by 4 to 10, 16 or 30, the state is unchanged.
 inline StepsResult check_steps(const Tree &tree, hmcs_state &state, const std::vector<std::uint16_t> &threads, const std::vector<std::uint16_t> &kinds,
                                const std::vector<std::uint16_t> &domains) noexcept {
     const hmcs_steps_reply reply =
@@ -583,12 +583,12 @@ inline StepsResult check_steps(const Tree &tree, hmcs_state &state, const std::v
     return result;
 }
 
-// Writes a journal, one journal entry for each step, without the fields that it can leave out. A debug build adds each step that it takes from a
-// fresh lock. A writer has no lock of its own: threads add one at a time, each under the mutex under which it took its step, since entries must be in
+// Writes a journal, one journal entry for each step, without the fields that can be left out. A debug build adds each step that it takes from a
+// fresh lock. A writer does not lock: each thread adds its entry under the mutex under which it took the step, since entries must be in
 // the order of the steps. hmcs_trace.hpp does that, or finds the order afterwards.
 class JournalWriter {
   public:
-    // Adds a journal entry, or nothing if memory runs out. A thread above 65,535 is refused by the check as 65,535 is.
+    // Adds a journal entry, or nothing if memory runs out. The check refuses a thread above 65,535 like 65,535.
     void add(std::uint32_t thread, Kind kind) {
         const std::uint16_t number = detail::thread_of(thread);
         const bool other_thread = number != thread_;
@@ -606,17 +606,17 @@ class JournalWriter {
         thread_ = number;
     }
 
-    // What was added since the beginning, or since the last drain.
+    // What was added since the start, or since the last drain.
     const std::vector<std::uint8_t> &bytes() const noexcept { return bytes_; }
 
-    // Takes these bytes out, for a file or a socket; the journal goes on. All that was drained, in its order, is the journal.
+    // Takes these bytes out, for a file or a socket; the journal continues. All drained bytes, in order, are the journal.
     std::vector<std::uint8_t> drain() {
         std::vector<std::uint8_t> taken;
         taken.swap(bytes_);
         return taken;
     }
 
-    // Begins another journal, which starts with a fresh lock.
+    // Starts another journal, from a fresh lock.
     void clear() noexcept {
         bytes_.clear();
         thread_ = 0;
@@ -624,14 +624,14 @@ class JournalWriter {
 
   private:
     std::vector<std::uint8_t> bytes_;
-    std::uint16_t thread_ = 0; // of the journal entry before
+    std::uint16_t thread_ = 0; // of the previous journal entry
 };
 
 struct [[nodiscard]] FileResult : Result {
     std::string listing;
 };
 
-// The file call, with as much room for the listing as it can need.
+// The file call, with a buffer that is long enough for every listing.
 inline FileResult run_file(const std::uint8_t *file, std::size_t length) {
     detail::check_library();
     FileResult result;
@@ -646,7 +646,7 @@ inline FileResult run_file(const std::uint8_t *file, std::size_t length) {
 
 inline FileResult run_file(const std::vector<std::uint8_t> &file) { return run_file(file.data(), file.size()); }
 
-// What a lock file holds; if refused (1 to 3), a tree without domains and threads, and no schedule.
+// The contents of a lock file; if refused (1 to 3), a tree without domains and threads, and no schedule.
 struct [[nodiscard]] ReadResult : Result {
     Tree tree;
     std::vector<std::uint16_t> schedule;
@@ -669,7 +669,7 @@ struct [[nodiscard]] WriteResult : Result {
     std::vector<std::uint8_t> file; // empty if refused
 };
 
-// The lock file of a tree and a schedule, as short as one can be.
+// The shortest lock file of a tree and a schedule.
 inline WriteResult write_file(const Tree &tree, const std::uint16_t *schedule, std::size_t length) {
     WriteResult result;
     result.file.resize(65536); // a longer file is refused (1)
@@ -683,7 +683,7 @@ inline WriteResult write_file(const Tree &tree, const std::uint16_t *schedule, s
 
 inline WriteResult write_file(const Tree &tree, const std::vector<std::uint16_t> &schedule) { return write_file(tree, schedule.data(), schedule.size()); }
 
-// How long it takes to pass the lock on: p1 within a home, p2 between homes below one domain, p3 across the root; all in one unit.
+// How long it takes to pass the lock on: p1 within a home, p2 between homes below one domain, p3 across the root; all in the same unit.
 using PassingTimes = hmcs_passing_times;
 
 struct [[nodiscard]] RateResult : Result {
@@ -691,7 +691,7 @@ struct [[nodiscard]] RateResult : Result {
 };
 
 // The rate of a busy three-level lock whose threads' homes have threshold h1 and the domains between them and the root h2. A threshold above 65,535
-// is refused as 0 is (8).
+// is refused like 0 (8).
 inline RateResult rate(std::uint32_t h1, std::uint32_t h2, const PassingTimes &times) {
     detail::check_library();
     const hmcs_rate_reply reply = hmcs_rate(detail::threshold_of(h1), detail::threshold_of(h2), times);
@@ -701,12 +701,12 @@ inline RateResult rate(std::uint32_t h1, std::uint32_t h2, const PassingTimes &t
 // A tree from its text. For 15 the place is a position in the text.
 struct [[nodiscard]] TextResult : Result {
     Tree tree;           // if refused, a tree without domains and threads
-    std::string message; // if refused, for people: what is wrong and, for 15, the text with a mark below the byte
+    std::string message; // if refused: what is wrong and, for 15, the text with a mark below the byte
 };
 
 namespace detail {
 
-// Some bytes of a text on a line, with a dot for each that is not printable, and a mark below the place.
+// Some bytes of a text on a line, with a dot for each unprintable one, and a mark below the place.
 inline std::string marked(std::string_view text, std::size_t place) {
     constexpr std::size_t around = 30;
     const std::size_t from = place > around ? place - around : 0;
@@ -722,7 +722,7 @@ inline std::string marked(std::string_view text, std::size_t place) {
     return line + "\n" + std::string(mark, ' ') + "^\n";
 }
 
-// What a text could have gone on with at the place where it was refused; up to there it is the beginning of a tree.
+// What could have followed in a text at the place where it was refused; up to there it is the beginning of a tree.
 inline std::string expected(std::string_view text, std::size_t place) {
     const std::string_view read = text.substr(0, place);
     const auto level = std::count(read.begin(), read.end(), '(') - std::count(read.begin(), read.end(), ')');
@@ -752,7 +752,7 @@ inline std::string text_message(const Refusal &refusal, std::string_view text) {
 
 } // namespace detail
 
-// A tree from its text, such as `(2(#2) 16(#1))`; its root is a queue. A line feed after it belongs to the file and not to the text.
+// A tree from its text, such as `(2(#2) 16(#1))`; its root is a queue. A line feed after it belongs to the file, not to the text.
 inline TextResult read_tree(std::string_view text) {
     detail::check_library();
     const hmcs_text_reply reply = hmcs_read_text(reinterpret_cast<const std::uint8_t *>(text.data()), text.size());

@@ -1,9 +1,9 @@
-// A real lock for C++17: the hierarchical MCS lock over a tree, with std::atomic. A reference to compare a lock of your own with. CPP.md shows how
-// it is traced and checked.
+// A real lock for C++17: the hierarchical MCS lock over a tree, with std::atomic. A reference to compare your own lock with. CPP.md shows how to trace
+// and check it.
 //
-// Each function below is a row of the step table (SPECIFICATION.md), one atomic step, and is named as the row is. In a step at most one access is to a word
-// that another thread may write at the same time; the other words are the thread's own then: status and next of its record before the record
-// is in a queue, and its status once it has been granted. At a ticket root both counters are in one word, so that Draw sees both at once.
+// Each function below is a row of the step table (SPECIFICATION.md), one atomic step, and has the row's name. In a step at most one access is to a word
+// that another thread may write at the same time. Only this thread writes the other words then: status and next of its record before the record is in a
+// queue, and its status after the grant. At a ticket root both counters are in one word, so Draw reads both at once.
 #ifndef HMCS_LOCK_HPP
 #define HMCS_LOCK_HPP
 
@@ -20,16 +20,16 @@ namespace hmcs {
 
 // What a lock can do wrong, for tests of traces and checks.
 enum class Fault {
-    link_wait_skipped,   // after a failed Cas, a successor that has not linked itself yet is taken as absent
+    link_wait_skipped,   // after a failed Cas, a successor that has not linked itself yet is treated as absent
     grant_before_parent, // the successor is granted before the parent is released
     count_from_0,        // the first of a cohort counts 0
     lost_wakeup,         // a Grant that does not write
-    at_most_for_below,   // Check passes on where the status is the threshold
-    old_next_kept,       // Prep leaves the next as it was
+    at_most_for_below,   // Check passes on when the status is the threshold
+    old_next_kept,       // Prep leaves next unchanged
     status_kept          // after ACQUIRE_PARENT the status does not become 1
 };
 
-// None of them: this is compiled away. Another policy says of each fault, where it would make a difference, whether it happens now.
+// No faults: this is compiled away. Another policy decides, wherever a fault would make a difference, whether it happens now.
 struct NoFaults {
     static constexpr bool possible = false;
     static constexpr bool happens(Fault, std::uint32_t) { return false; }
@@ -38,7 +38,7 @@ struct NoFaults {
 // The lock. Each thread of the tree calls lock and unlock with its own number, one thread at a time for each number.
 template <class Trace = trace::None, class Orders = trace::SequentiallyConsistent, class Faults = NoFaults> class AtomicLock {
   public:
-    // Throws std::invalid_argument where the tree is refused.
+    // Throws std::invalid_argument if the tree is refused.
     explicit AtomicLock(const hmcs_tree &tree) : tree_(accepted(tree)), trace_(tree.threads), words_(std::make_unique<Words>()) {}
 
     void lock(std::uint32_t thread) { acquire(thread, tree_.homes[thread], thread); }
@@ -66,7 +66,7 @@ template <class Trace = trace::None, class Orders = trace::SequentiallyConsisten
         std::array<Tail, HMCS_DOMAINS> tails;
         Tail counters; // of a ticket root: the ticket in the high 16 bits, the grant in the low ones
     };
-    struct Successor { // to whom Grant passes, and with which word; record 0 for nobody
+    struct Successor { // the record that Grant passes to, and the word it writes; record 0 for nobody
         std::uint32_t record;
         std::uint32_t word;
     };
@@ -91,7 +91,7 @@ template <class Trace = trace::None, class Orders = trace::SequentiallyConsisten
     bool ticket_at(std::uint32_t l) const { return l == 0 && tree_.ticket_root != 0; }
     static std::uint32_t record_of(std::uint32_t domain) { return 256 + domain; }
 
-    // Acquires a domain with a record, and then, where it was not passed on, the domains above it.
+    // Acquires a domain with a record and then, if the lock was not passed on to it, the domains above it.
     void acquire(std::uint32_t thread, std::uint32_t l, std::uint32_t i) {
         if (ticket_at(l)) {
             draw(thread, i);
@@ -141,7 +141,7 @@ template <class Trace = trace::None, class Orders = trace::SequentiallyConsisten
         });
     }
 
-    // Waits for a word other than WAIT (LOCKED at the root); false if the parent is to be acquired.
+    // Waits for a word other than WAIT (LOCKED at the root); false if the thread must acquire the parent.
     bool wait(std::uint32_t thread, std::uint32_t l, std::uint32_t i) {
         const Kind entry = l == 0 ? Kind::root_entry : l == tree_.homes[thread] ? Kind::passed_entry : Kind::crossed_entry;
         return until_moved(thread, l, [&](auto at) {
@@ -159,7 +159,7 @@ template <class Trace = trace::None, class Orders = trace::SequentiallyConsisten
                }) == entry;
     }
 
-    // Takes a step again until it is no stay.
+    // Repeats a step until it is not a stay.
     template <class Take> Kind until_moved(std::uint32_t thread, std::uint32_t domain, Take &&take) {
         Kind kind = trace_.step(thread, domain, take);
         for (std::uint32_t stays = 1; kind == Kind::stay; ++stays) {
@@ -206,7 +206,7 @@ template <class Trace = trace::None, class Orders = trace::SequentiallyConsisten
         return found;
     }
 
-    // Passes a domain on, with the word that says that those above it were released; or leaves it without a tail.
+    // Passes a domain on, with the word for "those above were released"; or leaves it without a tail.
     void help(std::uint32_t thread, std::uint32_t l, std::uint32_t i) {
         std::uint32_t next = none;
         const auto look = [&](auto at) {
@@ -244,7 +244,7 @@ template <class Trace = trace::None, class Orders = trace::SequentiallyConsisten
         });
     }
 
-    // Draw, and Watch where the ticket is not the grant.
+    // Draw, and Watch if the ticket is not the grant.
     void draw(std::uint32_t thread, std::uint32_t i) {
         const auto entry = [](std::uint32_t ticket, std::uint32_t counters) { return ticket == (counters & 65535); };
         std::uint32_t ticket = 0;
@@ -259,7 +259,7 @@ template <class Trace = trace::None, class Orders = trace::SequentiallyConsisten
         }
     }
 
-    // The grant is the thread's own ticket until it raises it, and from 65,535 it goes to 0 without touching the other counter.
+    // The grant is the thread's own ticket until the thread raises it. From 65,535 it goes to 0 without changing the other counter.
     void raise(std::uint32_t thread, std::uint32_t i) {
         trace_.step(thread, 0, [&](auto at) {
             const std::uint32_t ticket = at.load(record(i).status);

@@ -1,22 +1,22 @@
-// Traces of a real lock for C++17: what a lock calls at each atomic step, and three ways to write the steps down, so that the library can
-// check them. CPP.md has a complete example.
+// Traces of a real lock for C++17: what a lock calls at each atomic step, and three ways to record the steps for the library to check.
+// CPP.md has a complete example.
 //
 // A lock is a template over its trace and takes each step of the step table (SPECIFICATION.md) as
 //     trace.step(thread, domain, [&](auto at) { /* the step's accesses */ return kind; });
-// The domain is the one that the thread works at, its home where it was idle or inside; the kind is what the step turned out to be. The
-// accesses go through `at`, to words of the type Trace::Word<Orders>, which hold 32-bit numbers. The three traces:
-//   None        writes nothing, and is compiled away.
-//   OneByOne    takes the step and writes its entry under one mutex. The order is exact, whatever words the lock has; threads no longer run side by side.
-//   ThreadLogs  has a log for each thread, and no word that threads share beside those of the lock. Each access logs what it saw; afterwards
-//               written() finds an order of all steps in which every access sees just that.
-// A trace is of one lock, from its first step on: the check of a journal starts with a fresh lock, so no part of a trace may be left out.
+// The domain is where the step happens, the thread's home if it was idle or inside; the kind is what the step turned out to be. The
+// accesses go through `at`, to words of type Trace::Word<Orders>, which hold 32-bit numbers. The three traces:
+//   None        records nothing, and is compiled away.
+//   OneByOne    takes the step and writes its entry under one mutex. The order is exact for any type of words; threads no longer run in parallel.
+//   ThreadLogs  has a log for each thread; threads share no words except those of the lock. Each access logs what it saw; afterwards
+//               written() finds an order of all steps in which every access sees exactly that.
+// A trace covers one lock, from its first step on: the check of a journal starts with a fresh lock, so no part of a trace may be left out.
 //
-// Three traps for those who write a trace of their own:
-//   1. A sequence number that a thread draws after its access is not the order of the accesses: another thread may come between the access and the number.
-//      A right lock is then refused now and then. Draw it under a mutex together with the access, or write down what each access saw.
-//   2. A ticket lock with two words cannot be traced access by access: the step Draw looks at both counters at once, and between an increment
-//      of the one and a look at the other they may change. Keep both counters in one word (hmcs_lock.hpp does), or take each step under one mutex.
-//   3. Write down stays too. A thread that goes on waiting after it was granted is a stay where the step table has an entry; without stays such a
+// Three traps if you write your own trace:
+//   1. A sequence number that a thread draws after its access is not the order of the accesses: another thread may run between the access and the number.
+//      Then a correct lock is sometimes refused. Draw the number and make the access under one mutex, or record what each access saw.
+//   2. A ticket lock with two words cannot be traced access by access: the step Draw reads both counters at once, and they may change between an
+//      increment of one and a read of the other. Keep both counters in one word, as in hmcs_lock.hpp, or take each step under one mutex.
+//   3. Record stays too. If a thread keeps waiting after its grant, it has a stay where the step table has an entry. Without stays such a
 //      lost wakeup looks like a thread that has not had a turn yet, and the journal is accepted.
 #ifndef HMCS_TRACE_HPP
 #define HMCS_TRACE_HPP
@@ -37,7 +37,7 @@
 namespace hmcs {
 namespace trace {
 
-// Steps in the order in which they were taken: of each the thread, the kind and the domain, for hmcs::check_steps.
+// Steps in the order they were taken, each with thread, kind and domain, for hmcs::check_steps.
 struct Steps {
     std::vector<std::uint16_t> threads;
     std::vector<std::uint16_t> kinds;
@@ -61,22 +61,22 @@ struct Steps {
     }
 };
 
-// What a trace has written down. Where it is not whole, no order of all logged steps agrees with what their accesses saw, and these are the steps
-// up to there: accesses of one step were not atomic together, or the lock's memory orders are too weak for any order; or too_long says why.
+// What a trace has recorded. If it is not whole, no order of all logged steps agrees with what their accesses saw, and these are the steps up to there.
+// Then the accesses of one step were not atomic together, or the lock's memory orders are too weak for any order, or too_long says why.
 struct Written {
     Steps steps;
     bool whole = true;
     bool too_long = false; // a thread wrote more than 16,777,215 times
 };
 
-// The memory orders of a lock's words. The step table has accesses one at a time; with weaker orders than these it says nothing.
+// The memory orders of a lock's words. The step table makes accesses one at a time; it says nothing about weaker orders than these.
 struct SequentiallyConsistent {
     static constexpr std::memory_order load = std::memory_order_seq_cst;
     static constexpr std::memory_order store = std::memory_order_seq_cst;
     static constexpr std::memory_order update = std::memory_order_seq_cst; // exchange, compare_exchange, fetch_add
 };
 
-// A word as it is without a trace.
+// A word without a trace.
 template <class Orders = SequentiallyConsistent> class PlainWord {
   public:
     explicit PlainWord(std::uint32_t value = 0) : value_(value) {}
@@ -91,11 +91,11 @@ struct PlainAccess {
     template <class O> std::uint32_t load(const PlainWord<O> &word) const { return word.value_.load(O::load); }
     template <class O> void store(PlainWord<O> &word, std::uint32_t value) const { word.value_.store(value, O::store); }
     template <class O> std::uint32_t exchange(PlainWord<O> &word, std::uint32_t value) const { return word.value_.exchange(value, O::update); }
-    // Whether the word was as expected; it is then the value.
+    // Whether the word was as expected; then it becomes the value.
     template <class O> bool compare_exchange(PlainWord<O> &word, std::uint32_t expected, std::uint32_t value) const {
         return word.value_.compare_exchange_strong(expected, value, O::update, O::load);
     }
-    // Adds modulo 2^32, and returns what was there before.
+    // Adds modulo 2^32, and returns the old value.
     template <class O> std::uint32_t fetch_add(PlainWord<O> &word, std::uint32_t amount) const { return word.value_.fetch_add(amount, O::update); }
 };
 
@@ -109,7 +109,7 @@ class None {
     template <class Take> Kind step(std::uint32_t, std::uint32_t, Take &&take) { return take(PlainAccess{}); }
 };
 
-// Each step and its entry under one mutex. A lock may also have words of its own, of any type, and leave `at` aside, if it touches them in steps alone.
+// Each step and its entry under one mutex. A lock may also have its own words of any type and not use `at`, if it accesses them only in steps.
 class OneByOne {
   public:
     template <class Orders = SequentiallyConsistent> using Word = PlainWord<Orders>;
@@ -124,10 +124,10 @@ class OneByOne {
         return kind;
     }
 
-    // How many steps a thread has taken; for the thread itself, or when all have ended.
+    // How many steps a thread has taken; call it from that thread, or when all have ended.
     std::size_t taken(std::uint32_t thread) const { return taken_[thread]; }
 
-    // When all threads have ended.
+    // Call it when all threads have ended.
     Written written() const { return Written{steps_, true, false}; }
 
   private:
@@ -138,15 +138,15 @@ class OneByOne {
 
 namespace detail {
 
-// An access: the word, the write that it saw (0 for the word's first value), and the write that it made itself, 0 for none. A write is named by its
-// thread and how many writes this thread has made.
+// An access: the word, the write that it saw (0 for the word's first value), and its own write, 0 for none. A write is named by its thread and
+// how many writes this thread has made.
 struct Seen {
     const void *word;
     std::uint32_t saw;
     std::uint32_t wrote;
 };
 
-// A step, whose accesses begin at first. The time only chooses among orders that agree with all accesses.
+// A step; its accesses begin at first. The time only chooses among orders that agree with all accesses.
 struct Logged {
     std::int64_t time;
     std::size_t first;
@@ -172,9 +172,9 @@ struct alignas(64) Log {
     std::size_t end_of(std::size_t step) const { return step + 1 < steps.size() ? steps[step + 1].first : seen.size(); }
 };
 
-// Finds an order. Which write every access saw is known, and so is the write that each write replaced; a step can come next if each of its accesses
-// saw the write that its word has now, and no step that is left has seen one that it replaces. A step that can come next never has to wait for
-// another, so if there is an order, one is found.
+// Finds an order. It is known which write every access saw, and which write each write replaced. A step can come next if each of its accesses saw
+// the current write of its word, and no remaining step has seen a write that it replaces. A step that can come next never has to wait for another, so if
+// there is an order, one is found.
 class Merge {
   public:
     explicit Merge(const std::vector<Log> &logs) : logs_(logs), readers_(logs.size()), next_(logs.size(), 0) {
@@ -208,11 +208,11 @@ class Merge {
 
   private:
     struct Word {
-        std::uint32_t now = 0;           // the write that it has
-        std::uint32_t first_readers = 0; // accesses left that have seen its first value and wrote nothing
+        std::uint32_t now = 0;           // its current write
+        std::uint32_t first_readers = 0; // remaining accesses that saw its first value and wrote nothing
     };
 
-    // Accesses left that have seen a write and wrote nothing.
+    // Remaining accesses that saw a write and wrote nothing.
     std::uint32_t &readers(Word &word, std::uint32_t write) { return write == 0 ? word.first_readers : readers_[write >> 24][write & most_writes]; }
 
     void put_head(const Log &log) {
@@ -221,7 +221,7 @@ class Merge {
         }
     }
 
-    // The earliest by its time of the steps that can come next; false if there is none.
+    // Of the steps that can come next, the one with the earliest time; false if there is none.
     bool take_one() {
         for (auto head = heads_.begin(); head != heads_.end(); ++head) {
             const Log &log = logs_[head->second];
@@ -274,15 +274,15 @@ class Merge {
     const std::vector<Log> &logs_;
     std::unordered_map<const void *, Word> words_;
     std::vector<std::vector<std::uint32_t>> readers_; // by thread and write
-    std::vector<std::size_t> next_;                   // by thread, its first step that is left
+    std::vector<std::size_t> next_;                   // by thread, its first remaining step
     std::set<std::pair<std::int64_t, std::uint32_t>> heads_;
     Written result_;
 };
 
 } // namespace detail
 
-// A log for each thread. A word is 64 bits wide: beside its value it has the name of the write that it is from, so that each access knows which write it saw. A
-// store is an exchange, since it has to see what it replaces. An access that adds is a loop until it succeeds; only then it is logged.
+// A log for each thread. A word is 64 bits wide: it holds its value and the name of the write it came from, so each access knows which write it saw. A
+// store is an exchange, since it must see what it replaces. An access that adds loops until it succeeds, and is logged only then.
 template <class Clock> class ThreadLogsBy {
   public:
     template <class Orders = SequentiallyConsistent> class Word {
@@ -341,7 +341,7 @@ template <class Clock> class ThreadLogsBy {
         detail::Log *log_;
     };
 
-    // For so many threads, at most HMCS_THREADS.
+    // For this many threads, at most HMCS_THREADS.
     explicit ThreadLogsBy(std::size_t threads) : logs_(std::min<std::size_t>(threads, HMCS_THREADS)) {
         for (std::size_t i = 0; i < logs_.size(); ++i) {
             logs_[i].thread = static_cast<std::uint32_t>(i);
@@ -357,10 +357,10 @@ template <class Clock> class ThreadLogsBy {
         return kind;
     }
 
-    // How many steps a thread has taken; for the thread itself, or when all have ended.
+    // How many steps a thread has taken; call it from that thread, or when all have ended.
     std::size_t taken(std::uint32_t thread) const { return logs_[thread].steps.size(); }
 
-    // When all threads have ended.
+    // Call it when all threads have ended.
     Written written() const { return detail::Merge(logs_).run(); }
 
   private:

@@ -1,4 +1,4 @@
-"""Packs the package for pip. It needs nothing but Python, so that pip downloads nothing."""
+"""Packs the package for pip. It needs only Python, so pip downloads nothing."""
 
 import base64
 import glob

@@ -1,4 +1,5 @@
-// The allowances of a tree, its longest waits and the rounds in which every thread enters, as a host asks for them: levels, the largest child, numbers beyond 64 bits, refusals, that nothing outside the buffer is touched, and that by round robin every thread enters in the turns that are told.
+// The allowances of a tree, its longest waits and the rounds within which every thread enters, as a host uses them: levels, the largest child, numbers
+// beyond 64 bits, refusals, that nothing outside the buffer is touched, and that with round robin every thread enters within the returned turns.
 #include "check.hpp"
 #include "guarded.hpp"
 #include "hmcs.hpp"
@@ -12,7 +13,7 @@ namespace {
 
 using Numbers = std::vector<std::uint64_t>;
 
-// The example, the root alone, and a domain above two others, of which the larger counts; the kind of root does not.
+// The example, the root alone, and a domain above two others, where the larger one counts; the kind of root does not matter.
 void levels() {
     CHECK((hmcs::allowances(example_tree()).domains == Numbers{0, 2, 16}));
     CHECK((hmcs::allowances(two_domains(hmcs::RootKind::ticket)).domains == Numbers{0, 2, 16}));
@@ -26,7 +27,7 @@ void beyond() {
     CHECK((deep.domains == Numbers{0, UINT64_MAX, 18445618199572250625u, 281462092005375, 4294836225, 65535}));
 }
 
-// Refused as a fresh lock is, the buffer as it came; accepted, 0 after the domains; both between guard pages.
+// Refused like a fresh lock, with the buffer unchanged; accepted, with 0 after the domains; both between guard pages.
 void buffer() {
     hmcs::Tree empty = example_tree();
     empty.add_domain(0, 4);
@@ -42,7 +43,7 @@ void buffer() {
     }
 }
 
-// A fair lock lets everybody else by once, and so do thresholds that divide the numbers of members; larger ones let others by more often.
+// Under a fair lock each other thread enters at most once, and so with thresholds that divide the numbers of members; with larger ones more often.
 void longest_waits() {
     CHECK((hmcs::wait_bounds(root_alone(hmcs::RootKind::ticket, 3)).threads == Numbers{2, 2, 2}));
     CHECK((hmcs::wait_bounds(example_tree()).threads == Numbers{2, 2, 2}));
@@ -90,7 +91,7 @@ void rounds() {
     CHECK(refused.refusal.number == HMCS_EMPTY_DOMAIN && refused.refusal.place == 3 && refused.rounds == 0 && refused.turns == 0);
 }
 
-// From a state in which thread 2 holds the lock and the others wait, by round robin.
+// From a state in which thread 2 holds the lock and the others wait, with round robin.
 void everyone_enters() {
     hmcs::Lock lock(example_tree());
     CHECK(lock.run({2, 2, 2, 2, 2, 0, 0, 0, 0, 1, 1, 1, 1}).accepted());

@@ -1,4 +1,4 @@
-// Why a thread waits, as a host asks it: chains at both kinds of root, each refusal in its turn, and that nothing outside the buffers is touched.
+// Why a thread waits, as a host uses it: chains at both kinds of root, each refusal in order, and that nothing outside the buffers is touched.
 #include "check.hpp"
 #include "guarded.hpp"
 #include "hmcs.hpp"
@@ -16,13 +16,13 @@ namespace {
 using Threads = std::vector<std::uint16_t>;
 using hmcs::RootKind;
 
-// What a call answered.
+// The answer of a call.
 struct Answer {
     std::uint32_t number, place;
     Threads chain;
 };
 
-// The call between guard pages, with the buffer at either end of them: whether what is after the chain, or of a refused call all of it, is as it came.
+// The call between guard pages, with the buffer at either end: whether everything after the chain, or the whole buffer of a refused call, is unchanged.
 Answer ask(const hmcs_tree &tree, const hmcs_state &state, std::uint16_t thread, std::size_t room) {
     Answer answer{};
     for (bool at_end : {false, true}) {
@@ -42,7 +42,7 @@ Answer ask(const hmcs_tree &tree, const hmcs_state &state, std::uint16_t thread,
     return answer;
 }
 
-// Accepted with this chain, with a buffer that just suffices and with a longer one.
+// Accepted with this chain, with a buffer of exactly the needed length and with a longer one.
 bool gives(const hmcs::Tree &tree, const hmcs_state &state, std::uint16_t thread, const Threads &chain) {
     bool same_chain = true;
     for (const std::size_t more : {0, 1, 300}) {
@@ -57,7 +57,7 @@ bool refuses(const hmcs_tree &tree, const hmcs_state &state, std::uint16_t threa
     return answer.number == number && answer.place == place;
 }
 
-// No chain, in a buffer that suffices.
+// No chain, with a buffer that is long enough.
 bool breaks(const hmcs::Tree &tree, const hmcs_state &state, std::uint16_t thread) {
     return refuses(tree.words(), state, thread, tree.words().threads, HMCS_NO_CHAIN);
 }
@@ -68,7 +68,7 @@ hmcs::Lock after(const hmcs::Tree &tree, const Threads &schedule, std::uint16_t 
     return lock;
 }
 
-// A lock's chain by the wrapper, and by the call.
+// A lock's chain through the wrapper and through the call.
 bool explains(const hmcs::Lock &lock, std::uint16_t thread, const Threads &chain) {
     const hmcs::ChainResult result = lock.chain(thread);
     return result.accepted() && result.threads == chain && gives(hmcs::Tree::of(lock.tree()), lock.state(), thread, chain);
@@ -101,7 +101,7 @@ void ticket_root() {
     CHECK(explains(after(two_domains(RootKind::ticket), {2, 2, 2, 0, 0, 0, 1, 1, 1}, 65535), 1, {1, 0, 2}));
 }
 
-// As many threads as there is room for, one after another: the longest chain.
+// The largest number of threads, one after another: the longest chain.
 void longest() {
     for (const RootKind root : {RootKind::queue, RootKind::ticket}) {
         const hmcs::Tree tree = root_alone(root, 256);
@@ -136,7 +136,7 @@ hmcs_state third_watches() {
     return state;
 }
 
-// 21: none to look to.
+// 21: no thread to wait for.
 void nobody() {
     const hmcs::Tree three = root_alone(RootKind::queue, 3);
     CHECK(breaks(three, third_waits(), 2));
@@ -166,7 +166,7 @@ void nobody() {
     CHECK(breaks(root_alone(RootKind::ticket, 3), watches, 2));
 }
 
-// 21: several to look to.
+// 21: several threads to wait for.
 void several() {
     hmcs_state waits = third_waits();
     waits.nexts[0] = waits.nexts[1] = 3;
@@ -219,7 +219,7 @@ void comes_back() {
     CHECK(gives(two_domains(RootKind::queue), across, 0, {0, 1, 2}));
 }
 
-// 4 to 9 and 16, by the tree; before them nothing is looked at.
+// 4 to 9 and 16, by the tree; nothing is tested before them.
 void trees() {
     const hmcs_tree good = two_domains(RootKind::queue).words();
     hmcs_state bad_state{};
@@ -256,7 +256,7 @@ void trees() {
     }
 }
 
-// 10, 12, 20 and 21, each before the next; a thread as large as a number can be; a null buffer.
+// 10, 12, 20 and 21, each before the next; the largest thread number; a null buffer.
 void order() {
     for (const RootKind root : {RootKind::queue, RootKind::ticket}) {
         const hmcs_tree tree = root_alone(root, 3).words();
@@ -274,7 +274,7 @@ void order() {
     }
 }
 
-// The wrapper refuses as the call does, and the lock is as it was.
+// The wrapper refuses like the call, and the lock is unchanged.
 void wrapper() {
     const hmcs::Lock lock = after(root_alone(RootKind::queue, 2), {0, 0, 1, 1, 1});
     const hmcs_state before = lock.state();

@@ -1,4 +1,4 @@
-// Checks that are counted, and printed where they fail: shared by the host's tests.
+// Checks, counted and printed if they fail: shared by the host's tests.
 #ifndef HMCS_TEST_CHECK_HPP
 #define HMCS_TEST_CHECK_HPP
 

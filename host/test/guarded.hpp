@@ -11,10 +11,10 @@
 
 namespace {
 
-// Memory with pages before and after it that nobody may read or write.
+// Memory with inaccessible pages before and after it.
 class Guarded {
   public:
-    // The bytes end where the guard behind begins, or begin where the guard before ends.
+    // The bytes end directly before the second guard page, or begin directly after the first.
     Guarded(std::size_t size, bool at_end) : size_(size) {
         const std::size_t page = static_cast<std::size_t>(sysconf(_SC_PAGESIZE));
         const std::size_t inner = (size + page - 1) / page * page + (size == 0 ? page : 0);

@@ -1,4 +1,4 @@
-// The check of a journal, as a host makes it: journals of real steps through the writer, each byte changed, refusals, and that nothing outside the bytes is read.
+// The check of a journal, as a host uses it: journals of real steps through the writer, each byte changed, refusals, and that nothing outside the bytes is read.
 #include "check.hpp"
 #include "guarded.hpp"
 #include "hmcs.hpp"
@@ -14,7 +14,7 @@ namespace {
 
 using Bytes = std::vector<std::uint8_t>;
 
-// The journal of random steps of a lock that the host keeps.
+// The journal of random steps of a host's lock.
 Bytes journal_of(const hmcs::Tree &tree, std::size_t steps, std::uint32_t seed) {
     std::mt19937 random(seed);
     hmcs::Lock lock(tree);
@@ -28,7 +28,7 @@ Bytes journal_of(const hmcs::Tree &tree, std::size_t steps, std::uint32_t seed) 
     return writer.bytes();
 }
 
-// What the check is to answer, entry by entry, by steps of a lock in place.
+// The expected answer, entry by entry, from steps of a lock in place.
 hmcs::Refusal expected(const hmcs::Tree &tree, const Bytes &journal) {
     hmcs::Lock lock(tree);
     std::uint32_t thread = 0;
@@ -78,7 +78,7 @@ void real_steps() {
     }
 }
 
-// About as many entries as the library takes at a time, and twice as many: the first wrong kind after them, a cut, a thread that the tree lacks.
+// About as many entries as the library reads at a time, and twice as many: the first wrong kind after them, a cut, a thread that is not in the tree.
 void pieces() {
     const hmcs::Tree tree = example_tree();
     for (const std::size_t steps : {1023, 1024, 1025, 2047, 2048, 2049}) {
@@ -93,7 +93,7 @@ void pieces() {
     }
 }
 
-// The writer leaves out the thread of the entry before, 0 at first, and a stay.
+// The writer leaves out the thread of the previous entry, 0 at first, and a stay.
 void writer() {
     hmcs::JournalWriter writer;
     CHECK(writer.bytes().empty() && hmcs::check_journal(example_tree(), writer.bytes()).accepted());

@@ -1,5 +1,5 @@
-// A run that tells its steps, and the check of a state that was kept, as a host makes them: rows by hand, what single steps tell, refusals, and that nothing
-// outside the buffers is touched.
+// A run with kinds, and the check of a saved state, as a host uses them: rows by hand, comparison with single steps, refusals, and that nothing outside
+// the buffers is touched.
 #include "check.hpp"
 #include "guarded.hpp"
 #include "hmcs.hpp"
@@ -25,7 +25,7 @@ Rows rows_of(const hmcs::KindsResult &result) {
     return rows;
 }
 
-// What single steps tell, one after another.
+// The kinds and domains of single steps, one after another.
 Rows by_single_steps(hmcs::Lock &lock, const Schedule &schedule) {
     Rows rows;
     for (const std::uint16_t thread : schedule) {
@@ -56,7 +56,7 @@ void wrapper() {
     const hmcs::RunResult run = plain.run(schedule);
     CHECK(result.run.trace == run.trace && result.run.counts.entries == run.counts.entries && result.run.counts.passed == 1);
     CHECK(same(lock.state(), plain.state()));
-    // single steps tell the same, at both kinds of root, also from a state that is not fresh
+    // single steps give the same, at both kinds of root, also from a state that is not fresh
     for (const hmcs::RootKind root : {hmcs::RootKind::queue, hmcs::RootKind::ticket}) {
         hmcs::Lock told(two_domains(root)), stepped(two_domains(root));
         for (const std::size_t length : {0U, 1U, 500U, 3000U}) {
@@ -70,7 +70,7 @@ void wrapper() {
     CHECK(lock.run_kinds(Schedule(65536, 0)).steps.size() == 65536);
 }
 
-// The example between guard pages, with each room about 22 rows, and with a trace that is long enough or one too short.
+// The example between guard pages, with each length around 22 rows, and with a trace that is long enough or one too short.
 void buffers() {
     const hmcs::Tree tree = example_tree();
     const hmcs_state fresh = hmcs_fresh(tree.words(), 0).state;
@@ -112,7 +112,7 @@ void full_counter() {
     CHECK(full.number == HMCS_COUNTER_FULL && full.place == 3 && full.rows == 0);
 }
 
-// What was kept is taken up, or 10 says that it is not; the tree's numbers come before.
+// A saved state is accepted or refused by 10; the tree's numbers come before.
 void kept() {
     const hmcs::Tree tree = example_tree();
     hmcs::Lock lock(tree);

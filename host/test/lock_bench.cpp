@@ -1,4 +1,4 @@
-// What the reference lock costs, beside std::mutex and an MCS lock that is written out by hand with std::atomic. A benchmark is no test: nothing calls it.
+// The cost of the reference lock, compared with std::mutex and a handwritten MCS lock with std::atomic. A benchmark is not a test: nothing calls it.
 //   g++ -std=c++17 -O2 -I host/include host/test/lock_bench.cpp target/staticlib/libhost.a -pthread -o lock_bench && ./lock_bench
 #include "real_threads.hpp"
 
@@ -7,7 +7,7 @@
 
 namespace {
 
-// The root's queue alone, as AtomicLock has it, without a tree, a trace or faults.
+// Only the root's queue, as in AtomicLock, without a tree, a trace or faults.
 class ByHand {
   public:
     void lock(std::uint32_t me) {
@@ -57,7 +57,7 @@ struct Standard {
     std::mutex mutex;
 };
 
-// Nanoseconds for an entry, the best of seven rounds of so many.
+// Nanoseconds for an entry, the best of seven rounds of this many.
 template <class Make> double measured(Make make, std::uint32_t threads, std::uint32_t times) {
     double best = 1e9;
     for (int round = 0; round < 7; ++round) {

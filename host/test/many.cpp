@@ -1,4 +1,4 @@
-// Many schedules in one call, as a host makes it: rows against runs alone, refusals, and that nothing outside the buffers is touched.
+// Many schedules in one call, as a host uses it: rows compared with single runs, refusals, and that nothing outside the buffers is touched.
 #include "check.hpp"
 #include "guarded.hpp"
 #include "hmcs.hpp"
@@ -15,7 +15,7 @@ namespace {
 using Schedule = std::vector<std::uint16_t>;
 using Numbers = std::array<std::uint32_t, HMCS_NUMBERS_PER_MANY_ROW>;
 
-// What a run of the schedule alone answers, from a fresh state, with a trace buffer of its length.
+// The answer for the schedule alone, from a fresh state, with a trace buffer of its length.
 Numbers alone(const hmcs::Tree &tree, const Schedule &schedule) {
     Schedule trace(schedule.size());
     const hmcs_run_reply r = hmcs_run(tree.words(), hmcs_fresh(tree.words(), 0).state, schedule.data(), schedule.size(), trace.data(), trace.size());
@@ -27,7 +27,7 @@ Numbers numbers_of(const hmcs::Row &row) {
     return {row.refusal.number, static_cast<std::uint32_t>(row.refusal.place), c.steps, c.entries, c.stays, c.root, c.passed, c.crossed};
 }
 
-// The example, an empty schedule, one that is too long, the longest, one with an entry that is no thread, and the example again: each as it is alone.
+// The example, an empty schedule, one that is too long, the longest, one with an entry that is no thread, and the example again: each gives the same as alone.
 void wrapper() {
     const hmcs::Tree tree = example_tree();
     Schedule late = schedule22;
@@ -52,7 +52,7 @@ void wrapper() {
     CHECK(hmcs::run_many(tree, {}).accepted() && hmcs::run_many(tree, {}).rows.empty());
 }
 
-// With a ticket lock at the root each schedule starts with both counters at 0, whatever the one before it drew.
+// With a ticket lock at the root each schedule starts with both counters at 0, whatever the previous one drew.
 void ticket_root() {
     const hmcs::Tree tree = root_alone(hmcs::RootKind::ticket, 2);
     const std::vector<Schedule> schedules = {{0, 1, 1, 0, 0, 1}, {1}, Schedule(3, 0)};
@@ -65,7 +65,7 @@ void ticket_root() {
     CHECK((numbers_of(result.rows[1]) == Numbers{0, 0, 1, 1, 0, 1, 0, 0}));
 }
 
-// Three schedules of 22, 0 and 2 entries between guard pages, with each room about three rows, and one entry too many or too few.
+// Three schedules of 22, 0 and 2 entries between guard pages, with each length around three rows, and one entry too many or too few.
 void buffers() {
     const hmcs::Tree tree = example_tree();
     const std::array<std::uint32_t, 3> given = {22, 0, 2};

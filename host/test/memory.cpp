@@ -1,5 +1,5 @@
-// The wrapper where memory runs out: each of its functions is called again and again, the first, second, third .. allocation failing, until none
-// does. A call that throws has changed nothing, and numbers that do not fit are refused and never cut.
+// The wrapper when memory runs out: each of its functions is called repeatedly, with the first, second, third .. allocation failing, until none
+// fails. A call that throws has changed nothing, and numbers that do not fit are refused, not truncated.
 #include "check.hpp"
 #include "hmcs.hpp"
 #include "trees.hpp"
@@ -31,7 +31,7 @@ void operator delete(void *memory, std::size_t) noexcept { std::free(memory); }
 
 namespace {
 
-// Calls it with an allocation more succeeding each time; where it throws, what must still hold is asked. How often it threw.
+// Calls it with one more successful allocation each time; if it throws, checks what must still hold. Returns how often it threw.
 int fails(const std::function<void()> &call, const std::function<bool()> &unchanged) {
     for (int allowed = 0;; ++allowed) {
         until_failure = allowed;
@@ -50,7 +50,7 @@ bool same_waits(const hmcs::WaitsSoFar &a, const hmcs::WaitsSoFar &b) {
     return a.all.attempts == b.all.attempts && a.all.total == b.all.total && a.under_way == b.under_way && a.threads.size() == b.threads.size();
 }
 
-// A run that throws has taken no step, and its waits go on as if it had not been asked for.
+// A run that throws has taken no step, and the waits continue as if it had not been called.
 void locks() {
     hmcs::Lock lock(example_tree());
     CHECK(lock.run_waits({0, 0, 0, 0, 1, 1, 1}).accepted());
@@ -82,7 +82,7 @@ void locks() {
     CHECK(fails([&] { CHECK(hmcs::run_waits(example_tree(), state, under_way, schedule22).accepted()); }, fresh) > 0);
 }
 
-// A journal has whole entries only.
+// A journal has only complete entries.
 void journals() {
     hmcs::JournalWriter writer;
     std::size_t length = 0;
@@ -109,7 +109,7 @@ void others() {
     CHECK(fails([&] { CHECK(hmcs::check_journal(tree, {}).accepted()); }, nothing) == 0);
 }
 
-// A number that does not fit its word is refused, never cut to one that is accepted.
+// A number that does not fit its word is refused, never truncated to one that is accepted.
 void numbers() {
     hmcs::Tree tree;
     tree.add_domain(0, 65537);

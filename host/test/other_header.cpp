@@ -1,4 +1,4 @@
-// Asks whether the library fits the header, as a first use does.
+// Checks whether the library matches the header, as the first use does.
 #include "hmcs.hpp"
 
 #include <cstdio>

@@ -1,5 +1,5 @@
-// The rate as a host asks for it: layouts, refusals at their places, and a million inputs bit for bit against the formula written here.
-// Built with -ffp-contract=off, so that no product is joined to a sum and every operation below rounds by itself.
+// The rate as a host uses it: layouts, refusals at their places, and a million inputs compared bit for bit with the formula written here.
+// Built with -ffp-contract=off, so no product is fused with a sum and every operation below rounds separately.
 #include "check.hpp"
 #include "hmcs.hpp"
 
@@ -135,7 +135,7 @@ std::uint16_t random_threshold(Random &random) {
     }
 }
 
-// Mostly within the range, each power of two as likely as another; at times any bits.
+// Mostly within the range, with each power of two equally likely; sometimes any bits.
 double random_time(Random &random) {
     if (random.below(40) == 0) {
         return from_bits(random.word());

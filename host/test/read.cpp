@@ -1,4 +1,4 @@
-// Reading a lock file without running it, as a host does it: the example, buffers of other lengths, refusals, and that a written file reads back.
+// Reading a lock file without running it, as a host uses it: the example, buffers of other lengths, refusals, and that a written file reads back.
 #include "check.hpp"
 #include "guarded.hpp"
 #include "hmcs.hpp"
@@ -16,7 +16,7 @@ bool same_trees(const hmcs_tree &a, const hmcs_tree &b) {
            std::equal(a.thresholds, a.thresholds + HMCS_DOMAINS, b.thresholds) && std::equal(a.homes, a.homes + HMCS_THREADS, b.homes);
 }
 
-// What is written reads back, with either kind of root; words that a tree lacks are 0.
+// A written file reads back the same, with either kind of root; unused words are 0.
 void written() {
     for (const hmcs::RootKind root : {hmcs::RootKind::queue, hmcs::RootKind::ticket}) {
         const hmcs::Tree tree = two_domains(root);
@@ -26,14 +26,14 @@ void written() {
     }
 }
 
-// The longest schedule fits the room of the header.
+// The longest schedule fits HMCS_SCHEDULE_ROOM.
 void longest() {
     const hmcs::Tree tree = root_alone(hmcs::RootKind::queue, 1);
     const hmcs::ReadResult read = hmcs::read_file(hmcs::write_file(tree, std::vector<std::uint16_t>(32766, 0)).file);
     CHECK(read.accepted() && read.schedule.size() == 32766 && read.schedule.size() <= HMCS_SCHEDULE_ROOM);
 }
 
-// A buffer between guard pages that has room, one element too few or none; what is after the schedule stays.
+// A buffer between guard pages that is long enough, one element too short or empty; what is after the schedule stays.
 void buffers() {
     const Bytes file = hmcs::write_file(example_tree(), schedule22).file;
     const std::size_t turns = schedule22.size();

@@ -1,5 +1,5 @@
-// A real lock on real threads, traced in each way and checked; then the same lock with one fault that happens once, in so many runs for each fault, 24 if
-// no number is given. `real_lock samples FOLDER` writes the sample journals instead.
+// A real lock on real threads, traced in each way and checked; then the same lock with one fault that happens once, in a given number of runs for each
+// fault (default 24). `real_lock samples FOLDER` writes the sample journals instead.
 #include "check.hpp"
 #include "real_threads.hpp"
 
@@ -25,12 +25,12 @@ using Misled = Shaken<hmcs::trace::ThreadLogsBy<Backwards>>;
 
 std::size_t steps_checked = 0;
 
-// Every journal of the right lock is accepted, every domain is the model's, and all threads enter as often as they want.
+// Every journal of the correct lock is accepted, every domain is the model's, and all threads enter as often as they want.
 template <class Trace> void right(const hmcs::Tree &tree, std::uint32_t times, std::uint32_t seed) {
     const std::uint32_t threads = tree.words().threads;
     hmcs::AtomicLock<Trace> lock(tree.words());
     lock.trace().seed(seed);
-    std::size_t inside = 0; // not atomic: the lock keeps it
+    std::size_t inside = 0; // not atomic: protected by the lock
     enter(
         lock, threads, times, [&inside] { ++inside; }, [] {});
     const hmcs::trace::Written written = lock.trace().written();
@@ -74,7 +74,7 @@ void tickets_wrap() {
     CHECK(written.whole && written.steps.size() == 3u * 65540 && hmcs::check_journal(tree, written.steps.journal()).accepted());
 }
 
-// A fault that happens once, at one of its opportunities, and where that was: how many steps its thread had taken.
+// A fault that happens once, at one of its opportunities, and when: how many steps its thread had taken.
 template <class Trace> struct Once {
     static constexpr bool possible = true;
     Fault fault = Fault::lost_wakeup;
@@ -111,7 +111,7 @@ struct Share {
     int happened = 0;
     int by_kinds = 0;      // refused by the check of the journal
     int without_stays = 0; // refused by it if stays are left out
-    int by_domains = 0;    // refused where domains are compared too
+    int by_domains = 0;    // refused if domains are compared too
     int at_the_end = 0;    // neither, but threads wait at the end, or no order of all steps is possible
 
     int found() const { return by_domains + at_the_end; }
@@ -127,7 +127,7 @@ hmcs::trace::Steps without_stays(const hmcs::trace::Steps &steps) {
     return moves;
 }
 
-// One run, in which every thread enters so many times.
+// One run, in which every thread enters this many times.
 template <class Trace> hmcs::trace::Written faulty(const hmcs::Tree &tree, Fault fault, std::uint32_t run, std::uint32_t times, Share &share) {
     hmcs::AtomicLock<Trace, hmcs::trace::SequentiallyConsistent, Once<Trace>> lock(tree.words());
     lock.faults().fault = fault;
@@ -135,7 +135,7 @@ template <class Trace> hmcs::trace::Written faulty(const hmcs::Tree &tree, Fault
     lock.faults().trace = &lock.trace();
     lock.trace().seed(run + 1);
     lock.trace().patience(std::chrono::milliseconds(10));
-    // some faults show where the next thread is always there, one where nobody is
+    // some faults show if the next thread is always there, one if nobody is
     enter(
         lock, tree.words().threads, times, [run] { yield(run % 3); }, [run] { yield(run / 3 % 3 * 20); });
     hmcs::trace::Written written = lock.trace().written();
@@ -191,7 +191,7 @@ bool write(const std::string &path, const std::vector<std::uint8_t> &bytes) {
     return static_cast<bool>(file.flush());
 }
 
-// A journal of the right lock with entries of two kinds and a stay, and one of the lock that grants before it releases the parent, which kinds alone refuse;
+// A journal of the correct lock with entries of two kinds and a stay, and one of the lock that grants before it releases the parent, which kinds alone refuse;
 // prints where its first step with another kind or domain is.
 int samples(const std::string &folder) {
     const hmcs::Tree tree = hmcs::read_tree("(2(#2) 16(#1))").tree;

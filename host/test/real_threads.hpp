@@ -13,11 +13,11 @@
 #include <thread>
 #include <vector>
 
-// Thrown by a trace where a thread gives up waiting.
+// Thrown by a trace when a thread gives up waiting.
 struct Abandoned {};
 
-// A trace in which threads yield at random, so that they meet at every row, and at each stay. Where no thread of the lock has taken another step for
-// longer than the patience, the threads that wait give up; no thread gives up elsewhere.
+// A trace in which threads yield at random, so they meet at every row, and at each stay. If no thread of the lock has taken another step for longer than
+// the patience, the waiting threads give up; no thread gives up elsewhere.
 template <class Inner> class Shaken : public Inner {
   public:
     explicit Shaken(std::size_t threads) : Inner(threads), own_(threads) {
@@ -57,8 +57,8 @@ template <class Inner> class Shaken : public Inner {
     struct alignas(64) Own {
         std::uint32_t random = 1;
         std::uint64_t stays = 0;
-        std::uint64_t moves = 0;                     // of all threads, when it last looked
-        std::chrono::steady_clock::time_point since; // when it saw as many for the first time
+        std::uint64_t moves = 0;                     // of all threads, at the last check
+        std::chrono::steady_clock::time_point since; // when this number was first seen
     };
 
     void stay(Own &own) {
@@ -84,7 +84,7 @@ template <class Inner> class Shaken : public Inner {
     std::atomic<bool> stop_{false};
 };
 
-// A tree of some levels: domains in a chain, and beside the deepest of them further leaves, as many as the threads, two for each leaf, can fill.
+// A tree of some levels: domains in a chain, and further leaves next to the deepest, as many as the threads can fill with two each.
 inline hmcs::Tree tree_of_levels(hmcs::RootKind root, std::uint32_t levels, std::uint32_t threads, std::uint32_t threshold) {
     hmcs::Tree tree(root);
     std::vector<std::uint32_t> chain = {0};
@@ -101,14 +101,14 @@ inline hmcs::Tree tree_of_levels(hmcs::RootKind root, std::uint32_t levels, std:
     return tree;
 }
 
-// Yields so many times: others run meanwhile.
+// Yields this many times: others run meanwhile.
 inline void yield(std::uint32_t times) {
     for (std::uint32_t k = 0; k < times; ++k) {
         std::this_thread::yield();
     }
 }
 
-// Every thread enters so many times, once all have started, and does something inside and after it left; a thread that gives up waiting ends.
+// Every thread enters this many times, once all have started, and works inside and after it left; a thread that gives up waiting ends.
 template <class Lock, class Inside, class Outside> void enter(Lock &lock, std::uint32_t threads, std::uint32_t times, Inside inside, Outside outside) {
     std::vector<std::thread> running;
     std::atomic<std::uint32_t> started{0};
@@ -133,8 +133,8 @@ template <class Lock, class Inside, class Outside> void enter(Lock &lock, std::u
     }
 }
 
-// How steps compare with the model's, from a fresh lock: where the first has another kind, and where the first has another kind or another domain; the
-// number of steps if none has. How many entries the model had before, and how many threads were not idle at the end.
+// Compares steps with the model's, from a fresh lock: the first with another kind, and the first with another kind or domain; the number of steps if
+// there is none. Also how many entries the model had before, and how many threads were not idle at the end.
 struct Compared {
     std::size_t kind = 0;
     std::size_t kind_or_domain = 0;

@@ -1,4 +1,4 @@
-// The check of steps, as a host makes it: traces of the lock itself, pieces, each number with its place, and the state that is returned.
+// The check of steps, as a host uses it: traces of the lock itself, pieces, each number with its place, and the returned state.
 #include "check.hpp"
 #include "hmcs.hpp"
 #include "trees.hpp"
@@ -88,7 +88,7 @@ void refused() {
     }
 }
 
-// Before the steps nothing is done, and 19 is met step by step.
+// Nothing is done before the steps, and 19 is tested step by step.
 void other_numbers() {
     const hmcs::Tree tree = example_tree();
     const hmcs_state fresh = hmcs::Lock(tree).state();
@@ -116,7 +116,7 @@ void granted_too_early() {
     hmcs_state state = hmcs::Lock(tree).state();
     CHECK(hmcs::check_steps(tree, state, trace.threads, trace.kinds, trace.domains).accepted());
     Trace wrong = trace;
-    wrong.domains[9] = 1; // Help, which is at the root, taken down as one at the thread's home
+    wrong.domains[9] = 1; // Help, which is at the root, recorded as one at the thread's home
     state = hmcs::Lock(tree).state();
     const hmcs::StepsResult result = hmcs::check_steps(tree, state, wrong.threads, wrong.kinds, wrong.domains);
     CHECK(result.refusal.number == HMCS_OTHER_DOMAIN && result.refusal.place == 9 && result.checked == 9);

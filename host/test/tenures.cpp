@@ -78,7 +78,7 @@ void acquire_parent() {
     CHECK((three(lock, socket) == Three{2, 2, 1}) && (three(lock, first) == Three{1, 1, 1}) && (three(lock, second) == Three{1, 1, 1}));
 }
 
-// At a ticket root a draw that goes Inside starts a tenure, and so does the raise that shows the ticket, also where it shows it to several.
+// At a ticket root a draw that goes Inside starts a tenure, and so does the raise to a ticket, even if several hold it.
 void ticket_root() {
     hmcs::Lock lock(two_domains(hmcs::RootKind::ticket), 65535);
     CHECK(lock.run({0, 0, 0, 2, 2, 2, 0, 0}).accepted());
@@ -93,7 +93,7 @@ void ticket_root() {
     CHECK(handed.step(2).accepted() && (three(handed, 1) == Three{0, 1, 1}) && (three(handed, 2) == Three{0, 0, 0}));
 }
 
-// A step by value and in place, a run and a run with waits all answer this of a state, and leave what they are given.
+// A step by value and in place, a run and a run with waits all give this answer for a state, and leave their input unchanged.
 std::uint32_t number_of(const hmcs_tree &tree, const hmcs_state &state) {
     const std::uint16_t schedule[1] = {0};
     std::uint16_t trace[1] = {77}, chain[3];
@@ -109,13 +109,13 @@ std::uint32_t number_of(const hmcs_tree &tree, const hmcs_state &state) {
     CHECK(step.number == 0 || trace[0] == 77);
     const hmcs_waits_reply waits = hmcs_run_waits(tree, state, schedule, 1, trace, 1, rows, 20);
     CHECK(waits.number == step.number && waits.place == 0 && same(waits.state, step.state));
-    // a chain takes no step, so that 10 alone refuses it
+    // a chain takes no step, so only 10 refuses it
     const bool bad = step.number == HMCS_BAD_STATE;
     CHECK(hmcs_chain(tree, state, 0, chain, 3, &place, &length) == (bad ? HMCS_BAD_STATE + 0U : 0U) && place == 0 && length == (bad ? 0U : 1U));
     return step.number;
 }
 
-// What 10 refuses: each counter of the root and of room that the tree lacks, a longest tenure above the threshold, a counter above 2^63.
+// What 10 refuses: each counter of the root and of unused slots, a longest tenure above the threshold, a counter above 2^63.
 void bad_counters() {
     const hmcs_tree tree = example_tree().words();
     const auto with = [&tree](Counter counter, std::size_t domain, std::uint64_t count) {
@@ -143,8 +143,8 @@ void positions() {
     struct Case {
         Counter counter;
         std::size_t domain;
-        std::uint64_t below; // 2^63 less so many
-        std::uint32_t place; // 22 where it is accepted
+        std::uint64_t below; // this much below 2^63
+        std::uint32_t place; // 22 if it is accepted
     };
     const Case cases[] = {
         {&hmcs_state::entries, 1, 0, 3},  {&hmcs_state::entries, 1, 1, 11}, {&hmcs_state::entries, 1, 2, 22}, {&hmcs_state::tenures, 1, 0, 3},
@@ -177,7 +177,7 @@ void positions() {
     CHECK(std::string(hmcs_refusal_text(HMCS_COUNTER_FULL)) == "a step would push a counter past 2^63");
 }
 
-// 19 comes last: after 11 to 13 and, in a run with waits, after 18. A whole schedule of which the last entry alone pushes a counter past is refused whole.
+// 19 comes last: after 11 to 13 and, in a run with waits, after 18. A schedule whose last entry alone pushes a counter past the limit is refused as a whole.
 void order() {
     const hmcs_tree tree = example_tree().words();
     hmcs_state state{};
@@ -191,7 +191,7 @@ void order() {
     CHECK(hmcs_run_waits(tree, state, schedule22.data(), 22, trace.data(), 21, rows.data(), 19).number == HMCS_TRACE_SHORT);
     CHECK(hmcs_run_waits(tree, state, schedule22.data(), 22, trace.data(), 22, rows.data(), 19).number == HMCS_WAITS_BUFFER_SHORT);
     CHECK(hmcs_run_waits(tree, state, schedule22.data(), 22, trace.data(), 22, rows.data(), 20).number == HMCS_COUNTER_FULL);
-    // threads 0, 0 .. alone: an entry of domain 1 each ten steps, so that the 5,000th is at position 4999 * 10 + 3
+    // threads 0, 0 .. alone: an entry of domain 1 every ten steps, so the 5,000th is at position 4999 * 10 + 3
     hmcs_state near{};
     near.entries[1] = HMCS_MOST_COUNTED - 4999;
     const Schedule one(65537, 0);

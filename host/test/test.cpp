@@ -61,7 +61,7 @@ void layouts() {
     CHECK(answer.number == HMCS_BAD_STATE && answer.place == 0 && same(*kept, *state));
 }
 
-// The last elements of a tree's arrays are read where the library expects them.
+// The library reads the last elements of a tree's arrays at the right offsets.
 void tree_layout() {
     hmcs_tree t;
     std::memset(&t, 0, sizeof t);
@@ -101,7 +101,7 @@ void tree_layout() {
     CHECK(hmcs_fresh(u, 0).number == 0);
 }
 
-// By value, in place and as a run, the 22 entries lead to one state.
+// By value, in place and as a run, the 22 entries lead to the same state.
 void example() {
     const hmcs::Tree tree = example_tree();
     const hmcs_fresh_reply fresh = hmcs_fresh(tree.words(), 9);
@@ -154,7 +154,7 @@ void wrapper() {
     const hmcs::RunResult refused = lock.run(late);
     CHECK(refused.refusal.number == 12 && refused.refusal.place == 22 && refused.trace.empty() && same(lock.state(), before));
     CHECK(std::string(refused.refusal.text()) == "a thread number is not below the number of threads");
-    // as long a file as may be, of the lock that enters most often: one thread at a ticket root, every third step an entry
+    // the longest file, of the lock that enters most often: one thread at a ticket root, every third step an entry
     std::vector<std::uint8_t> longest = {129, 1, 0, 0};
     longest.resize(65536, 0);
     const hmcs::FileResult most = hmcs::run_file(longest);
@@ -163,7 +163,7 @@ void wrapper() {
     CHECK(file.accepted() && file.listing == "ok 22 3 1 2 1 0\n0\n1\n2\n");
 }
 
-// A state that was kept: taken up where it is well formed, refused by 10 where it is not, and by the tree before that.
+// A saved state: accepted if it is well formed, otherwise refused by 10; the tree is tested first.
 void saved_states() {
     hmcs::Lock lock(example_tree());
     CHECK(lock.run({0, 0, 0, 0, 1, 1, 1}).accepted());
@@ -204,11 +204,11 @@ void saved_states() {
     CHECK(hmcs::Lock::saved(hmcs::Tree(), kept).refusal().number == HMCS_BAD_THREADS);
 }
 
-// A result says accepted or refused and is no bool, so that nobody reads it the wrong way round.
+// A result has accepted() and refused() and is not a bool, so nobody can read it the wrong way round.
 static_assert(!std::is_convertible_v<hmcs::StepResult, bool> && !std::is_constructible_v<bool, hmcs::StepResult>);
 static_assert(!std::is_constructible_v<bool, hmcs::Refusal> && !std::is_constructible_v<bool, hmcs::Lock>);
 
-// The file call between guard pages, with each length of output about the listing's.
+// The file call between guard pages, with each length of output around the listing's.
 void files() {
     const std::vector<std::uint8_t> bytes = example_file();
     const std::string listing = "ok 22 3 1 2 1 0\n0\n1\n2\n";
@@ -243,7 +243,7 @@ void files() {
     CHECK(hmcs_run_file(longest.as<std::uint8_t>(), 65537, nullptr, 0, &place, &length) == HMCS_FILE_TOO_LONG && place == 0 && length == 0);
 }
 
-// Numbers that do not fit a word are refused, not cut.
+// Numbers that do not fit a word are refused, not truncated.
 void wide_numbers() {
     hmcs::Tree parent;
     parent.add_domain(256, 1);
@@ -273,7 +273,7 @@ void null_pointers() {
 
 } // namespace
 
-// What single steps say, by value and in place, against a run's counts: some thousand random steps in three trees, with this kind of root.
+// The kinds of single steps, by value and in place, compared with a run's counts: some thousand random steps in three trees, with this kind of root.
 void kinds(hmcs::RootKind root) {
     std::uint32_t seed = 7;
     const auto random = [&seed](std::uint32_t below) {

@@ -26,7 +26,7 @@ bool accepted(const std::string &text, const hmcs::Tree &tree) {
     return result.accepted() && result.refusal.place == 0 && result.message.empty() && std::memcmp(&result.tree.words(), &tree.words(), sizeof no_tree) == 0;
 }
 
-// Domains with threshold 1 and one thread each, and the tree that they are.
+// Domains with threshold 1 and one thread each, and their tree.
 std::string children(std::uint32_t count) {
     std::string text = "(";
     for (std::uint32_t d = 1; d <= count; ++d) {
@@ -50,7 +50,7 @@ void printed_example() {
         CHECK(refused(example.substr(0, cut), HMCS_TEXT_WRONG, cut));
     }
     CHECK(refused(example + "\n", HMCS_TEXT_WRONG, 14));
-    // The tree that was read is a lock's, and runs as document 01 prints it.
+    // The tree that was read makes a lock, which runs as document 01 prints it.
     hmcs::Lock lock(hmcs::read_tree(example).tree);
     CHECK(lock.accepted());
     const hmcs::RunResult run = lock.run({0, 0, 0, 0, 1, 1, 1, 1, 0, 0, 0, 1, 2, 2, 2, 2, 2, 1, 1, 1, 1, 2});
@@ -113,7 +113,7 @@ void messages() {
     CHECK(far[above + (mark - line)] == 'x');
 }
 
-// The text ends where pages begin that nobody may read.
+// The text ends directly before a guard page.
 void guarded(const std::string &text) {
     const std::size_t page = static_cast<std::size_t>(sysconf(_SC_PAGESIZE));
     const std::size_t inner = (text.size() + page - 1) / page * page + page;

@@ -14,10 +14,10 @@ using hmcs::same;
 
 namespace {
 
-// A kind of root is no tree by itself.
+// A kind of root does not convert to a tree.
 static_assert(!std::is_convertible_v<hmcs::RootKind, hmcs::Tree> && std::is_constructible_v<hmcs::Tree, hmcs::RootKind>);
 
-// A tree is given a queue root where nothing else is said; every number but 0 names a ticket root.
+// A tree has a queue root by default; every nonzero number means a ticket root.
 void kinds_of_root() {
     CHECK(hmcs::Tree().root() == hmcs::RootKind::queue && hmcs::Tree().words().ticket_root == 0);
     CHECK(hmcs::Tree(hmcs::RootKind::queue).words().ticket_root == 0);
@@ -32,7 +32,7 @@ void kinds_of_root() {
     }
 }
 
-// Both counters are the start; it is 0 at a queue root and in a refused call, which in place leaves what was there.
+// Both counters are the start; it is 0 at a queue root and in a refused call, which in place leaves the state unchanged.
 void starts() {
     hmcs_tree tree = two_domains(hmcs::RootKind::ticket).words();
     const hmcs_state zero{};
@@ -55,7 +55,7 @@ void starts() {
     }
 }
 
-// Three threads at home at the root, from 65,535: one enters, two watch, and the raise shows them their tickets in order.
+// Three threads at home at the root, from 65,535: one enters, two watch, and the raises reach their tickets in order.
 void three_draws() {
     hmcs::Lock lock(root_alone(hmcs::RootKind::ticket, 3), 65535);
     hmcs::StepResult step = lock.step(0);
@@ -103,7 +103,7 @@ bool refused(const hmcs::Tree &tree, const hmcs_state &state) {
     return step.number == HMCS_BAD_STATE;
 }
 
-// What 10 refuses by the kind of root, each on the state that the other kind accepts or that is one word away from accepted.
+// What 10 refuses because of the kind of root, each in a state that the other kind accepts or that is one word away from accepted.
 void not_well_formed() {
     const hmcs::Tree queue = two_domains(hmcs::RootKind::queue);
     const hmcs::Tree ticket = two_domains(hmcs::RootKind::ticket);
@@ -143,7 +143,7 @@ void not_well_formed() {
     }
 }
 
-// A handed-in state with one ticket for two: one raise lets both in, by the table.
+// A given state with one ticket for two: by the table, one raise lets both in.
 void one_ticket_for_two() {
     const hmcs::Tree tree = root_alone(hmcs::RootKind::ticket, 3);
     hmcs_state state{};

@@ -1,4 +1,4 @@
-// Traces, step by step: what words and logs do, the order that is found from what each access saw, and where there is none.
+// Traces, step by step: words and logs, the order found from what each access saw, and cases without an order.
 #include "check.hpp"
 #include "hmcs_lock.hpp"
 
@@ -14,7 +14,7 @@ using hmcs::trace::OneByOne;
 using hmcs::trace::ThreadLogs;
 using hmcs::trace::Written;
 
-// A clock that stands: the order is found from the accesses alone, and otherwise goes by the threads' numbers.
+// A clock that stands still: the order is found from the accesses alone, and otherwise follows the threads' numbers.
 struct Still {
     static std::chrono::steady_clock::time_point now() { return {}; }
 };
@@ -49,7 +49,7 @@ std::vector<std::pair<int, int>> order(const Written &written) { // thread and d
     return result;
 }
 
-// Each step has its number as its domain. By the threads' numbers 0 would come first; what was seen says otherwise.
+// Each step has its number as its domain. By thread number 0 would come first; what was seen says otherwise.
 void order_from_accesses() {
     Timeless trace(3);
     Timeless::Word<> a(0), b(0);
@@ -76,7 +76,7 @@ void order_from_accesses() {
     CHECK(trace.taken(0) == 2 && trace.taken(1) == 2 && trace.taken(2) == 2);
 }
 
-// A failed compare_exchange only reads, a step may see its own write, and a step without an access goes by its thread alone.
+// A failed compare_exchange only reads, a step may see its own write, and a step without an access is ordered only by its thread.
 void other_accesses() {
     Timeless trace(2);
     Timeless::Word<> a(1);
@@ -94,7 +94,7 @@ void other_accesses() {
 }
 
 // A ticket lock with two words: thread 1 draws, then thread 2 draws and looks at the grant, thread 0 raises it, and only then thread 1 looks. As one step
-// each there is no order: 1 drew before 2, 2 looked before the raise, and 1 after it. The accesses, each a step of its own, have one.
+// each there is no order: 1 drew before 2, 2 looked before the raise, and 1 after it. The accesses as separate steps have one.
 void two_words() {
     for (const bool apart : {false, true}) {
         Timeless trace(3);
@@ -129,7 +129,7 @@ void two_words() {
     }
 }
 
-// More writes than have names are noticed.
+// Too many writes are noticed.
 void too_long() {
     std::vector<hmcs::trace::detail::Log> logs(1);
     logs[0].writes = hmcs::trace::detail::most_writes - 1;

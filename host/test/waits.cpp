@@ -1,4 +1,4 @@
-// A run with waits, as a host makes it: rows by hand, the run itself as without them, runs one after another, refusals, and that nothing outside the buffers is
+// A run with waits, as a host uses it: rows by hand, the same run as without them, consecutive runs, refusals, and that nothing outside the buffers is
 // touched.
 #include "check.hpp"
 #include "guarded.hpp"
@@ -19,7 +19,7 @@ using Numbers = std::array<std::uint64_t, HMCS_NUMBERS_PER_WAITS_ROW>;
 
 Numbers numbers_of(const hmcs::Waits &w) { return {w.attempts, w.total, w.largest, w.numerator, w.denominator}; }
 
-// Threads 0 and 1 take turns in one queue, each going after the other before that one enters.
+// Threads 0 and 1 alternate in one queue; each joins after the other before that one enters.
 Schedule taking_turns() {
     Schedule schedule;
     const std::array<std::array<std::uint16_t, 2>, 9> parts = {{{1, 2}, {0, 3}, {1, 6}, {0, 7}, {1, 7}, {0, 7}, {1, 4}, {0, 4}, {1, 2}}};
@@ -39,7 +39,7 @@ void wrapper() {
     CHECK((numbers_of(result.all) == Numbers{7, 4, 1, 4, 7}));
     CHECK(result.run.trace == run.trace && result.run.counts.entries == run.counts.entries && result.run.counts.stays == run.counts.stays);
     CHECK(same(lock.state(), plain.state()));
-    // the attempt of thread 1 that is under way when a run begins is none of that run's
+    // the attempt of thread 1 that is under way when a run begins does not count in that run
     hmcs::Lock second(root_alone(hmcs::RootKind::queue, 2));
     CHECK(second.run(Schedule{0, 0, 1, 1, 1}).accepted());
     const hmcs::WaitsResult late = second.run_waits(Schedule{0, 0, 0, 1});
@@ -53,7 +53,7 @@ void wrapper() {
     CHECK(lock.run_waits(Schedule(65536, 0)).run.counts.steps == 65536);
 }
 
-// The example between guard pages, with each room about four rows, and with a trace that is long enough or one too short.
+// The example between guard pages, with each length around four rows, and with a trace that is long enough or one too short.
 void buffers() {
     const hmcs::Tree tree = example_tree();
     const hmcs_state fresh = hmcs_fresh(tree.words(), 0).state;
@@ -83,7 +83,7 @@ void buffers() {
     CHECK(hmcs_run_waits(tree.words(), fresh, nullptr, 0, nullptr, 0, nullptr, 0).number == HMCS_WAITS_BUFFER_SHORT);
 }
 
-// The numbers between guard pages: thread 1 is left waiting, and a number that cannot be leaves everything.
+// The numbers between guard pages: thread 1 is left waiting, and an impossible number leaves everything unchanged.
 void guarded_numbers() {
     const hmcs::Tree tree = example_tree();
     const hmcs_state fresh = hmcs_fresh(tree.words(), 0).state;
@@ -106,7 +106,7 @@ void guarded_numbers() {
 
 bool same_waits(const hmcs::Waits &a, const hmcs::Waits &b) { return numbers_of(a) == numbers_of(b); }
 
-// A schedule cut at each of its turns: what the two runs say together is what one run says, and so are the attempts under way between them.
+// A schedule split at each of its turns: the two runs together give what one run gives, with the attempts under way between them.
 void cut_anywhere() {
     const Schedule schedule = taking_turns();
     hmcs::Lock whole(root_alone(hmcs::RootKind::queue, 2));
@@ -123,7 +123,7 @@ void cut_anywhere() {
     }
 }
 
-// What the lock keeps, and when it is not known.
+// What the lock keeps, and when it is unknown.
 void kept() {
     hmcs::Lock lock(root_alone(hmcs::RootKind::queue, 2));
     CHECK((lock.waits().under_way == std::vector<std::uint64_t>{0, 0}) && numbers_of(lock.waits().all) == Numbers{});
@@ -135,7 +135,7 @@ void kept() {
     const hmcs::WaitsResult result = lock.run_waits(Schedule{0, 0, 0, 1});
     CHECK((numbers_of(result.threads[1]) == Numbers{1, 0, 0, 0, 1}) && (numbers_of(lock.waits().all) == Numbers{2, 0, 0, 0, 1}));
     CHECK((lock.waits().under_way == std::vector<std::uint64_t>{0, 0}));
-    // a run without turns changes nothing; after a step without waits the attempt is not known
+    // a run without turns changes nothing; after a step without waits the attempt is unknown
     CHECK(other.run(Schedule{}).accepted() && other.waits().under_way[1] == 1);
     CHECK(other.step(0).accepted() && other.waits().under_way[1] == 0);
     CHECK((numbers_of(other.run_waits(Schedule{0, 0, 1}).threads[1]) == Numbers{}));
@@ -143,7 +143,7 @@ void kept() {
     CHECK(refused.refused() && refused.run_waits(Schedule{}).refused() && refused.waits().threads.empty() && refused.waits().under_way.empty());
 }
 
-// Numbers that a host hands in: large ones, totals that are cut, 27 with its place, and 18 before it.
+// Numbers that a host passes in: large ones, capped totals, 27 with its place, and 18 before it.
 void numbers() {
     const hmcs::Tree tree = root_alone(hmcs::RootKind::queue, 4);
     // thread 0 is inside, and threads 1 to 3 wait in the queue
@@ -158,7 +158,7 @@ void numbers() {
     const hmcs::WaitsResult result = hmcs::run_waits(tree, state, under_way, go_on);
     CHECK((numbers_of(result.threads[1]) == Numbers{1, HMCS_MOST_COUNTED - 1, HMCS_MOST_COUNTED - 1, HMCS_MOST_COUNTED - 1, 1}));
     CHECK((numbers_of(result.threads[2]) == Numbers{1, HMCS_MOST_COUNTED, HMCS_MOST_COUNTED, HMCS_MOST_COUNTED, 1}));
-    // the three add up to more than 64 bits hold
+    // the three add up to more than 64 bits
     CHECK((numbers_of(result.all) == Numbers{3, UINT64_MAX, HMCS_MOST_COUNTED + 1, UINT64_MAX / 3, 1}));
     CHECK(under_way == hmcs::UnderWay{});
     for (const std::size_t at : {std::size_t{1}, std::size_t{4}, std::size_t{255}}) {
@@ -170,7 +170,7 @@ void numbers() {
         CHECK(refused.run.refusal.number == HMCS_BAD_UNDER_WAY && refused.run.refusal.place == at && refused.threads.empty());
         CHECK(under_way == before && same(kept, waiting));
     }
-    // the largest number goes one further where another thread enters meanwhile; the call after it refuses the number
+    // the largest number grows by one if another thread enters meanwhile; the next call refuses it
     state = waiting;
     under_way = {};
     under_way[2] = HMCS_MOST_COUNTED;

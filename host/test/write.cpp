@@ -1,4 +1,4 @@
-// Writing the lock file, as a host does it: the example byte by byte, written and run, refusals in order, and that nothing outside the buffer is touched.
+// Writing the lock file, as a host uses it: the example byte by byte, written and run, refusals in order, and that nothing outside the buffer is touched.
 #include "check.hpp"
 #include "guarded.hpp"
 #include "hmcs.hpp"
@@ -14,7 +14,7 @@ namespace {
 using Schedule = std::vector<std::uint16_t>;
 using Bytes = std::vector<std::uint8_t>;
 
-// The tree's bytes of the example, its first byte as given, and two bytes an entry after them.
+// The tree's bytes of the example with the given first byte, then two bytes per entry.
 Bytes example_file(std::uint8_t first) {
     Bytes file = {first, 2, 2, 0, 0, 3, 0, 1, 1, 0, 1, 2};
     for (const std::uint16_t entry : schedule22) {
@@ -37,7 +37,7 @@ void example() {
     CHECK(hmcs::write_file(hmcs::Tree::of(words), schedule22).file == example_file(131));
 }
 
-// Parents 0 and 1, thresholds 15, 16, 17 and 272, homes of the thread before and others.
+// Parents 0 and 1, thresholds 15, 16, 17 and 272, homes of the previous thread and others.
 void edges() {
     hmcs::Tree tree;
     const std::uint16_t thresholds[5] = {15, 16, 16, 17, 272};
@@ -51,7 +51,7 @@ void edges() {
     CHECK((hmcs::write_file(tree, {}).file == Bytes{6, 2, 15, 0, 0, 1, 1, 3, 1, 17, 0, 2, 16, 1, 6, 0, 1, 2, 0, 1, 3, 1, 4, 1, 5, 1, 2}));
 }
 
-// One thread: 32,766 entries make the longest file, and one more none.
+// One thread: 32,766 entries make the longest file; with one more there is none.
 void longest() {
     const hmcs::Tree tree = root_alone(hmcs::RootKind::queue, 1);
     const hmcs::WriteResult full = hmcs::write_file(tree, Schedule(32766, 0));
@@ -61,7 +61,7 @@ void longest() {
     CHECK(hmcs::write_file(tree, Schedule(65537, 0)).refusal.number == HMCS_SCHEDULE_LONG);
 }
 
-// The example between guard pages, with each room about its 56 bytes, with a last entry that is no thread, and with a tree that is refused.
+// The example between guard pages, with each length around its 56 bytes, with a last entry that is no thread, and with a tree that is refused.
 void buffers() {
     const Bytes wanted = example_file(3);
     for (bool at_end : {false, true}) {
@@ -87,7 +87,7 @@ void buffers() {
     }
 }
 
-// Null pointers with length 0, and sentences for people.
+// Null pointers with length 0, and sentences of refusals.
 void nothing() {
     std::uint32_t place = 99, length = 99;
     CHECK(hmcs_write_file(example_tree().words(), nullptr, 0, nullptr, 0, &place, &length) == HMCS_FILE_SHORT && place == 0 && length == 0);

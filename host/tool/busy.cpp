@@ -6,8 +6,8 @@ namespace tool {
 
 namespace {
 
-// Which threads can move, kept up to date step by step. A step changes that for its own thread and for at most one more: the one that it links
-// itself to, grants or shows a ticket to. Only Wait, Linger and Watch have stays.
+// Which threads can move, updated step by step. A step changes that for its own thread and for at most one more: the one that it links itself
+// to, grants or raises the grant to. Only Wait, Linger and Watch have stays.
 class Movers {
   public:
     explicit Movers(const hmcs::Tree &tree) : lock_(tree), moving_(tree.words().threads, true), workers_(HMCS_RECORDS), ticket_holders_(65536) {}
@@ -47,7 +47,7 @@ class Movers {
         }
     }
 
-    // The record with which a thread works at a domain on its path: its own at home, and above that its domain's below.
+    // The record that a thread uses at a domain on its path: its own at home, above that the record of the domain below.
     std::size_t record_of(std::uint16_t thread, std::uint32_t domain) const {
         std::uint32_t below = lock_.tree().homes[thread];
         if (below == domain) {

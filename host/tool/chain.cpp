@@ -31,8 +31,8 @@ Command chain_command() {
             "usage: hmcs chain FILE THREAD\n"
             "       hmcs chain TREE THREAD --schedule S [--ticket]\n"
             "Runs the schedule of a lock file from a fresh lock and then says why the thread waits: which thread\n"
-            "it waits for, which one that waits for, and so on, up to one that can move. A thread that can move\n"
-            "is the whole chain.\n"
+            "it waits for, which thread that one waits for, and so on, up to one that can move. The chain of a\n"
+            "thread that can move is the thread alone.\n"
             "\n" +
                 std::string(run_help) +
                 "\n"

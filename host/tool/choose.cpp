@@ -1,4 +1,4 @@
-// `choose`: thresholds for which no thread can wait too long, and among these the ones that pass the lock on in the least time.
+// `choose`: of the thresholds with which no thread can wait too long, those that pass the lock on in the least time.
 #include "choose.hpp"
 
 #include "html.hpp"
@@ -16,7 +16,7 @@ namespace {
 constexpr std::uint64_t most_candidates = 4000000;
 constexpr double shown_step = 0.05; // a row is shown where it costs so much less than the row before
 
-// The levels whose thresholds are chosen, and for each its domains and the largest number of members that one of them has.
+// The levels whose thresholds are chosen, each with its domains and the largest number of members of one of them.
 std::vector<Level> levels_of(const Words &words, const hmcs::Tree &tree) {
     std::map<std::uint32_t, Level> found;
     for (const Domain &domain : domains_in_order(tree)) {
@@ -44,8 +44,8 @@ std::vector<Level> levels_of(const Words &words, const hmcs::Tree &tree) {
     return levels;
 }
 
-// What a busy lock is expected to pay for an entry, which decides only what is run: of every tenure of a domain below the root all but the first
-// entry stay below it, and a domain of one member passes nothing on. Without times root entries count first, then crossed ones.
+// The expected cost of an entry of a busy lock, which only decides what is run: in every tenure of a domain below the root all entries except the first
+// stay below it, and a domain of one member passes nothing on. Without times root entries count first, then crossed ones.
 double expected_cost(const hmcs::Tree &tree, const std::vector<bool> &passes_on, const std::optional<hmcs::PassingTimes> &times) {
     const hmcs_tree &words = tree.words();
     const auto passes = [&](std::uint32_t domain) { return passes_on[domain] ? static_cast<double>(words.thresholds[domain]) : 1.0; };
@@ -79,7 +79,7 @@ class Search {
     std::uint64_t smallest = UINT64_MAX; // of all longest waits that were met
 
   private:
-    // A threshold above the number of members only makes longer waits, so the search of a level ends where the limit is passed there.
+    // A threshold above the number of members only makes waits longer, so the search of a level ends when it exceeds the limit.
     void descend(std::size_t level) {
         for (std::uint32_t threshold = 1; threshold <= 65535; ++threshold) {
             thresholds_[level] = static_cast<std::uint16_t>(threshold);
@@ -135,8 +135,8 @@ bool dominates(const Candidate &a, const Candidate &b) {
     return a.thresholds != b.thresholds && std::equal(a.thresholds.begin(), a.thresholds.end(), b.thresholds.begin(), std::greater_equal<std::uint16_t>());
 }
 
-// Those of which no threshold can be raised within the limit: a larger threshold passes the lock on below it more often. They are run, but for those
-// that are expected to cost half as much again as the cheapest.
+// Those of which no threshold can be raised within the limit: a larger threshold passes the lock on below it more often. They are run, except those
+// expected to cost half as much again as the cheapest.
 std::vector<Candidate> worth_running(std::vector<Candidate> candidates) {
     constexpr std::size_t most_runs = 120;
     std::sort(candidates.begin(), candidates.end(), [](const Candidate &a, const Candidate &b) { return a.expected < b.expected; });
@@ -165,8 +165,8 @@ std::vector<Candidate> unbeaten(std::vector<Candidate> candidates, double share)
     return kept;
 }
 
-// The runs that can be compared and that no other beats in both wait and cost as they were measured, by their waits; the last costs least. Of runs
-// that cost nearly the same the first is kept, and the last one always.
+// The comparable runs that no other beats in both measured wait and cost, ordered by wait; the last costs least. Of runs with nearly the same cost
+// the first is kept, and the last one always.
 std::vector<Candidate> measured_best(std::vector<Candidate> tried) {
     std::sort(tried.begin(), tried.end(), [](const Candidate &a, const Candidate &b) {
         return a.possible_wait != b.possible_wait ? a.possible_wait < b.possible_wait : cost_of(a.trial) < cost_of(b.trial);
@@ -229,7 +229,7 @@ Choice choose_for(const Words &words, const Input &input) {
     return choice;
 }
 
-// A tree of the root alone has no threshold, and a wait that is what it is.
+// A tree with only the root has no threshold to choose and a fixed wait.
 std::string nothing_to_choose(const Words &words, const hmcs::Tree &tree) {
     const std::uint64_t limit = number("--max-wait", words.value("--max-wait", ""), UINT64_MAX - 1), wait = hmcs::wait_bounds(tree).largest();
     if (wait > limit) {
@@ -245,7 +245,7 @@ std::string nothing_to_choose(const Words &words, const hmcs::Tree &tree) {
 
 std::string choose(const Words &words) {
     if (!words.has("--max-wait")) {
-        fail("choose: --max-wait N says for how many entries of others a thread may wait at most");
+        fail("choose: --max-wait N is required: how many entries of others a thread may wait for");
     }
     const Input input = read_tree(words.others()[0], words.has("--ticket"));
     if (input.tree.words().domains == 1) {
@@ -284,25 +284,25 @@ double cost_of(const Trial &trial) {
 
 Command choose_command() {
     return {"choose",
-            "which thresholds, so that nobody waits too long?",
+            "chooses thresholds with which nobody waits too long",
             "usage: hmcs choose TREE --max-wait N [--times P1,P2,P3 [--hold H]] [--level L ..] [--schedule S]\n"
             "                        [--csv | --json] [--page OUT.html] [--ticket]\n"
-            "Finds a threshold for each level so that no thread can wait for more than N entries of others, on\n"
-            "any schedule, as long as nobody stalls, which is proved; and among these the one with the least\n"
-            "time per entry on the schedule S (busy:65536:1 if none is named). Without --times it is the one\n"
-            "with the fewest root and then crossed entries. Prints the choice, what the next ones would cost,\n"
-            "and a row for each choice that nothing else beats and that costs a twentieth less than the row\n"
-            "before.\n"
+            "Finds a threshold for each level with which no thread waits for more than N entries of others. This\n"
+            "is proved for every schedule as long as nobody stalls. Of these thresholds it chooses those with\n"
+            "the least time per entry on the schedule S (default busy:65536:1), or without --times those with\n"
+            "the fewest root entries, then the fewest crossed entries. Prints the choice, what the next ones\n"
+            "would cost, and a row for each choice that nothing else beats and that costs a twentieth less than\n"
+            "the row before.\n"
             "\n"
             "  --max-wait N      how many entries of others a thread may wait for\n"
             "  --times P1,P2,P3  how long it takes to pass the lock on at home, between homes and across the root\n"
-            "  --hold H          how long a thread keeps the lock: adds what the longest wait is in time at most\n"
-            "  --level L         chooses for these levels only and leaves the others as they are\n"
-            "  --schedule S      what is run\n"
-            "  --jobs N          how many runs at a time, by default as many as there are processors\n"
+            "  --hold H          how long a thread keeps the lock: adds an upper bound of the longest wait in time\n"
+            "  --level L         chooses only for these levels and keeps the thresholds of the others\n"
+            "  --schedule S      the schedule to run\n"
+            "  --jobs N          how many runs at a time (default: the number of processors)\n"
             "  --csv, --json     the table for programs, with every column of `sweep`\n"
-            "  --page OUT.html   writes a page as well, with every column\n"
-            "  --ticket          the root of a text is a ticket lock\n"
+            "  --page OUT.html   also writes a page, with every column\n"
+            "  --ticket          the root of a tree given as text is a ticket lock\n"
             "\n"
             "  hmcs choose \"$(hmcs machine)\" --max-wait 200 --times 0.05,0.2,1\n",
             with_table_options({{"--max-wait", true},

@@ -32,10 +32,10 @@ struct Choice {
 };
 
 hmcs::Tree with_thresholds(const hmcs::Tree &tree, const std::vector<Level> &levels, const std::vector<std::uint16_t> &thresholds);
-// What an entry cost: its time or, without passing times, the share of root entries and, where these are as many, of crossed ones.
+// What an entry cost: its time or, without passing times, the share of root entries and, if these are equal, of crossed ones.
 double cost_of(const Trial &trial);
 
-// The choice in a sentence, and what decides, for people.
+// The choice in a sentence, and the deciding table, for people.
 std::string choice_text(const Choice &choice);
 // Every column, for programs and the page.
 Table choice_table(const Choice &choice);

@@ -1,4 +1,4 @@
-// The picture of a choice: a dot for each row, further to the right for a longer wait, higher for a dearer entry.
+// The picture of a choice: a dot for each row, further right for a longer wait, higher for a more expensive entry.
 #include "choose.hpp"
 
 #include "html.hpp"

@@ -1,4 +1,4 @@
-// What `choose` says of a choice: in a sentence, as a table for people or for programs, and on a page.
+// The output of `choose`: a sentence, a table for people or for programs, and a page.
 #include "choose.hpp"
 #include "html.hpp"
 #include "tool.hpp"
@@ -76,7 +76,7 @@ void add_rows(const Choice &choice, Table &table, const std::function<void(const
     }
 }
 
-// What decides: no wait that was seen, so nothing that a run leaves out.
+// The deciding columns: no observed wait, so nothing that a run leaves out.
 Table deciding_table(const Choice &choice) {
     Table table;
     add_choice_columns(choice, table);
@@ -114,7 +114,7 @@ std::string longer_waits(const Choice &choice) {
     for (const std::string &line : split(beyond(choice), '\n')) {
         items += line.empty() ? "" : "<li>" + escaped(line) + "</li>\n";
     }
-    return section("What a longer wait would bring", "", "<ul>\n" + items + "</ul>\n");
+    return section("What a longer wait would gain", "", "<ul>\n" + items + "</ul>\n");
 }
 
 } // namespace

@@ -55,6 +55,7 @@ std::string compare(const Words &words) {
     add_trial_columns(table, shown);
     table.column("comparable", Side::left);
     bool missing = false;
+    std::uint64_t fewest = UINT64_MAX;
     for (const std::string &word : words.others()) {
         const hmcs::Tree tree = tree_named(word);
         for (const Schedule &schedule : schedules) {
@@ -64,9 +65,10 @@ std::string compare(const Words &words) {
             }
             add(table, word, schedule, trial, shown, schedules.size() > 1);
             missing = missing || !trial.missing.comparable();
+            fewest = std::min(fewest, trial.missing.fewest_entries);
         }
     }
-    warn_how_to_compare(missing);
+    warn_how_to_compare(missing, fewest);
     return printed(words, table);
 }
 
@@ -76,14 +78,14 @@ Command compare_command() {
     return {"compare",
             "several trees side by side",
             "usage: hmcs compare TREE TREE .. [--schedule S ..] [--times P1,P2,P3 [--hold H]] [--csv | --json]\n"
-            "Runs the same schedules on several trees, each from a fresh lock, and prints a row for each: the\n"
-            "columns are those of `hmcs sweep`. TREE is as for `hmcs tree`; ticket:TREE has a ticket lock at\n"
-            "its root. Is a ticket root better here? Is the middle level worth having? The schedule is\n"
-            "busy:65536:1 if none is named.\n"
+            "Runs the same schedules on several trees, each from a fresh lock, and prints a row for each, with\n"
+            "the columns of `hmcs sweep`. TREE is as for `hmcs tree`; ticket:TREE has a ticket lock at its\n"
+            "root. Use it to see whether a ticket root is better, or whether a level is worth having. The\n"
+            "default schedule is busy:65536:1.\n"
             "\n"
-            "  --schedule S      what is run; if given again, each tree has a row for each\n"
+            "  --schedule S      the schedule to run; if repeated, each tree has a row for each schedule\n"
             "  --times P1,P2,P3  adds the time per entry, as for `hmcs sweep`\n"
-            "  --hold H          adds what the longest possible wait is in time at most\n"
+            "  --hold H          adds an upper bound of the longest possible wait in time\n"
             "  --csv, --json     for programs\n"
             "\n"
             "  hmcs compare '(4(#4) 4(#4))' 'ticket:(4(#4) 4(#4))' '(#8)' --times 0.05,0.2,1\n",

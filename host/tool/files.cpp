@@ -1,4 +1,4 @@
-// Reading and writing files. What the system cannot do is said with its own words, and a file that was written in part does not stay.
+// Reading and writing files. Errors of the system are reported in its own words, and a partly written file is removed.
 #include "tool.hpp"
 
 #include <cerrno>
@@ -74,7 +74,7 @@ std::string write_bytes(const std::string &path, const std::string &bytes, const
     for (const std::string &input : inputs) {
         std::error_code ignored;
         if (std::filesystem::equivalent(path, input, ignored)) {
-            fail(path + ": this is the file that is read; it would be overwritten");
+            fail(path + ": this is an input file and would be overwritten");
         }
     }
     write_file(path, bytes);

@@ -1,4 +1,4 @@
-// One self-contained page: no script, no font and no picture from elsewhere, light or dark as the reader has it.
+// One self-contained page: no script, no external font or picture, light or dark as the reader prefers.
 #ifndef HMCS_HTML_HPP
 #define HMCS_HTML_HPP
 
@@ -7,15 +7,15 @@
 
 namespace tool {
 
-// The words with which the command was called, for the foot of its pages.
+// The command line, for the footer of its pages.
 void remember_command(const std::vector<std::string> &words);
-// A page: its title, the first sentences, which say what follows from it, what else to know, and the rest as HTML.
+// A page: its title, the first sentences, which give its result, further information, and the rest as HTML.
 std::string page_of(const std::string &title, const std::string &first, const std::string &more, const std::string &body);
 std::string section(const std::string &title, const std::string &words, const std::string &body);
-// What can be opened where a page would be long.
+// A part that can be opened, to keep a page short.
 std::string folded(const std::string &title, const std::string &body, bool open);
 
-// A colour of the style sheet and what it stands for.
+// A colour of the style sheet and its meaning.
 struct Shade {
     std::string name; // of a class of the style sheet
     std::string text;

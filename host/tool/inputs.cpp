@@ -8,7 +8,7 @@ namespace {
 
 constexpr std::size_t longest_file = 65536;
 
-// No lock file is printable throughout: its first byte is 0, 1, 128 or 129, or the second is a bit map of at most 3.
+// No lock file consists of printable bytes only: its first byte is 0, 1, 128 or 129, or the second is a bit map of at most 3.
 bool is_text(const std::string &bytes) {
     return !bytes.empty() && std::all_of(bytes.begin(), bytes.end(), [](char b) { return (b >= ' ' && b <= '~') || b == '\n' || b == '\r' || b == '\t'; });
 }
@@ -71,13 +71,13 @@ Input read_tree(const std::string &text_or_path, bool ticket) {
         return Input{tree_of_text(text_or_path, bytes, ticket), {}, false};
     }
     if (ticket) {
-        fail("--ticket goes with a tree as text; the lock file " + text_or_path + " says itself what its root is");
+        fail("--ticket goes with a tree as text; the lock file " + text_or_path + " already says what its root is");
     }
     return lock_of_bytes(text_or_path, bytes.substr(0, longest_file + 1));
 }
 
-const char *const run_help = "  --schedule S   runs the schedule S, as for `hmcs make`, on a tree in place of FILE\n"
-                             "  --ticket       the root of that tree, if it is a text, is a ticket lock\n";
+const char *const run_help = "  --schedule S   runs a schedule as for `hmcs make` on a tree instead of FILE\n"
+                             "  --ticket       if the tree is given as text, its root is a ticket lock\n";
 
 std::vector<Option> with_run_options(std::vector<Option> options) {
     options.push_back({"--schedule", true});
@@ -88,7 +88,7 @@ std::vector<Option> with_run_options(std::vector<Option> options) {
 Input read_run(const Words &words) {
     if (!words.has("--schedule")) {
         if (words.has("--ticket")) {
-            fail("--ticket goes with --schedule and a tree as text; a lock file says itself what its root is");
+            fail("--ticket goes with --schedule and a tree as text; a lock file already says what its root is");
         }
         return read_lock_file(words.others()[0]);
     }

@@ -1,4 +1,4 @@
-// `journal`: checks what a plugin wrote of its own steps, and says where and why it does not agree.
+// `journal`: checks a journal of a plugin's steps, and says where and why it is wrong.
 #include "journals.hpp"
 #include "places.hpp"
 #include "table.hpp"
@@ -10,7 +10,7 @@ namespace {
 
 constexpr std::size_t shown_before = 10; // steps before a wrong entry
 
-// One line for each of the entries, from the lock as it is before the first of them.
+// One line for each of the entries, from the lock before the first of them.
 Table steps_table(hmcs::Lock &lock, const std::vector<JournalEntry> &entries, std::size_t from, std::size_t to) {
     Table table;
     table.column("entry");
@@ -34,7 +34,7 @@ Table steps_table(hmcs::Lock &lock, const std::vector<JournalEntry> &entries, st
     return table;
 }
 
-// What is wrong with the entry after those that agree.
+// What is wrong with the first wrong entry.
 std::string fault(const hmcs::Lock &lock, const Journal &journal, std::size_t at, const std::string &bytes) {
     if (at == journal.entries.size()) {
         const unsigned bits = static_cast<std::uint8_t>(bytes[journal.end]);
@@ -97,7 +97,7 @@ std::string on_their_way(const hmcs::Lock &lock) {
         return "";
     }
     return "At the end " + std::to_string(count) + (count == 1 ? " thread is" : " threads are") +
-           " neither idle nor inside, as where a recording is cut short. If the lock hung there,\na wakeup was lost: the last thread of each line could "
+           " neither idle nor inside, as in a recording that was cut short. If the lock hung there,\na wakeup was lost: the last thread of each line could "
            "have moved.\n" +
            lines;
 }
@@ -105,7 +105,7 @@ std::string on_their_way(const hmcs::Lock &lock) {
 Input tree_of(const Words &words) {
     if (words.has("--from-lock")) {
         if (words.others().size() != 1 || words.has("--ticket")) {
-            fail("journal: --from-lock FILE names the tree and its root, so only the journal is expected beside it");
+            fail("journal: --from-lock FILE gives the tree and its root, so give only the journal with it");
         }
         const std::string path = words.value("--from-lock", "");
         Input input = read_tree(path, false);
@@ -137,17 +137,17 @@ std::string journal(const Words &words) {
 
 Command journal_command() {
     return {"journal",
-            "checks a journal that a plugin wrote of its steps",
+            "checks a journal of a plugin's steps",
             "usage: hmcs journal TREE FILE [--ticket]\n"
             "       hmcs journal FILE --from-lock LOCKFILE\n"
-            "Checks a journal, one journal entry for each step, against steps from a fresh lock of the tree. TREE\n"
-            "is as for `hmcs tree`. A journal that does not agree is refused at the first byte of its first wrong\n"
-            "entry, with what the thread's step is there, what the journal says, and the ten steps before. Of an\n"
-            "accepted journal it also says who was on the way at its end, and why each of them waits. Entries are\n"
-            "counted from 0.\n"
+            "Compares a journal, one journal entry for each step, with the steps from a fresh lock of the tree.\n"
+            "TREE is as for `hmcs tree`. A wrong journal is refused at the first byte of its first wrong entry;\n"
+            "the command shows the thread's step there, what the journal says, and the ten steps before. For an\n"
+            "accepted journal it says which threads were still on their way at the end, and why each of them\n"
+            "waits. Entries are counted from 0.\n"
             "\n"
-            "  --ticket          the root of a text is a ticket lock\n"
-            "  --from-lock FILE  takes the tree of a lock file\n"
+            "  --ticket          the root of a tree given as text is a ticket lock\n"
+            "  --from-lock FILE  uses the tree of a lock file\n"
             "\n"
             "  hmcs journal '(2(#2) 16(#1))' printed-example.journal\n",
             {{"--ticket", false}, {"--from-lock", true}},

@@ -23,7 +23,7 @@ std::vector<std::string> fields_of(const std::string &line) {
 
 bool is_cache(const std::string &name) { return name.size() > 1 && name[0] == 'L' && name[1] >= '1' && name[1] <= '9'; }
 
-// The names of the columns, of the last comment that has them.
+// The names of the columns, from the last comment that has them.
 std::vector<std::string> names_of(const std::string &lines) {
     std::vector<std::string> names{"CPU", "Core", "Socket", "Node"};
     std::istringstream input(lines);
@@ -103,7 +103,7 @@ Group simplified(const Group &group) {
     return group.groups.empty() ? group : flat;
 }
 
-// The processors with these indices, by the levels from one on.
+// The processors with these indices, grouped by the levels from this one on.
 Group group_of(const std::vector<Processor> &processors, const std::vector<std::size_t> &indices, const std::vector<Partition> &levels, std::size_t level) {
     Group group;
     if (level == levels.size()) {
@@ -135,7 +135,7 @@ void add_in_order(const Group &group, std::vector<Processor> &found) {
     found.insert(found.end(), group.workers.begin(), group.workers.end());
 }
 
-// A group with this many workers on each of its processors, in order; empty groups go.
+// A group with this many workers on each of its processors, in order; empty groups are removed.
 Group refilled(const Group &group, const std::vector<std::uint64_t> &counts, std::size_t &at) {
     Group filled;
     for (const Processor &processor : group.workers) {
@@ -169,7 +169,7 @@ std::vector<Processor> read_layout(const std::string &name, const std::string &l
         }
     }
     if (processors.empty()) {
-        fail(name + ": no processor; expected lines as `lscpu -p=CPU,CORE,SOCKET,NODE,CACHE` prints them");
+        fail(name + ": no processor; expected the output of `lscpu -p=CPU,CORE,SOCKET,NODE,CACHE`");
     }
     std::stable_sort(processors.begin(), processors.end(), [](const Processor &a, const Processor &b) { return a.number < b.number; });
     return processors;

@@ -8,19 +8,19 @@
 
 namespace tool {
 
-// A worker's place: a processor, and the groups that it is in. What lscpu does not say is empty.
+// A worker's place: a processor and its groups. What lscpu does not report is empty.
 struct Processor {
     std::uint64_t number = 0;
     std::string core, socket, node, cache; // the cache is the last one on its way to memory, with its level: "L3 0"
 };
 
-// The processors that are online, of lines as `lscpu -p=CPU,CORE,SOCKET,NODE,CACHE` prints them; the name is for errors.
+// The online processors in the output of `lscpu -p=CPU,CORE,SOCKET,NODE,CACHE`; the name is for errors.
 std::vector<Processor> read_layout(const std::string &name, const std::string &lines);
 
 // One processor of each core, the one with the lowest number, in the order of the processors.
 std::vector<Processor> one_per_core(const std::vector<Processor> &processors);
 
-// A group of processors: its groups, or if it has none its own workers, by the processors they run on.
+// A group of processors: its groups, or if it has none its own workers, by processor.
 struct Group {
     std::vector<Group> groups;
     std::vector<Processor> workers;
@@ -28,9 +28,9 @@ struct Group {
     std::size_t members() const { return groups.empty() ? workers.size() : groups.size(); }
 };
 
-// The machine as groups within groups: sockets or nodes, and what shares a last cache. A group with one member is left out.
+// The machine as groups within groups: sockets or nodes, and cores that share a last-level cache. A group with one member is left out.
 Group grouped(const std::vector<Processor> &processors);
-// So many workers, spread evenly over the processors; groups that get none are left out.
+// This many workers, spread evenly over the processors; groups without a worker are left out.
 Group spread(const Group &machine, std::uint64_t workers);
 
 // The text of the tree, with the number of members as each threshold.

@@ -1,4 +1,4 @@
-// `machine`: the tree of a computer, from what lscpu prints of it.
+// `machine`: the tree of a computer, from the output of lscpu.
 #include "layout.hpp"
 #include "tool.hpp"
 
@@ -8,7 +8,7 @@ namespace tool {
 
 namespace {
 
-// What lscpu prints of this computer.
+// The output of lscpu on this computer.
 std::string run_lscpu() {
     std::FILE *pipe = popen("lscpu -p=CPU,CORE,SOCKET,NODE,CACHE 2>/dev/null", "r");
     if (pipe == nullptr) {
@@ -20,7 +20,7 @@ std::string run_lscpu() {
         lines.append(piece, got);
     }
     if (pclose(pipe) != 0) {
-        fail("lscpu failed or was not found (Debian: apt-get install util-linux); name a file with what it prints instead");
+        fail("lscpu failed or was not found (Debian: apt-get install util-linux); give a file with its output instead");
     }
     return lines;
 }
@@ -33,14 +33,14 @@ std::size_t domains_in(const Group &group) {
     return count;
 }
 
-// What no lock of this library can have is said with its number.
+// Reports a machine that is too large for a lock, with its number.
 void test_size(const Group &machine) {
     const std::size_t threads = in_order(machine).size();
     if (threads > HMCS_THREADS) {
-        fail("this machine has " + std::to_string(threads) + " workers, and a lock at most 256; --threads N spreads fewer over it");
+        fail("this machine has " + std::to_string(threads) + " workers, but a lock has at most 256 threads; use --threads N to spread fewer over it");
     }
     if (domains_in(machine) > HMCS_DOMAINS) {
-        fail("this machine has " + std::to_string(domains_in(machine)) + " groups, and a lock at most 64 domains");
+        fail("this machine has " + std::to_string(domains_in(machine)) + " groups, but a lock has at most 64 domains");
     }
 }
 
@@ -86,15 +86,15 @@ Command machine_command() {
     return {"machine",
             "the tree of a computer, as text",
             "usage: hmcs machine [FILE] [--smt] [--threads N] [--workers | --csv | --json]\n"
-            "Prints the text of a tree that has the shape of a computer: its sockets or NUMA nodes, within them\n"
-            "the groups of cores that share a last cache, and one thread for each core. A group with one member\n"
-            "is left out. Each threshold is the number of the domain's members: as long as nobody stalls, no\n"
-            "thread waits longer than under a fair lock. FILE has what `lscpu -p=CPU,CORE,SOCKET,NODE,CACHE`\n"
-            "printed on another computer; without it, lscpu is run on this one.\n"
+            "Prints the tree of a computer as text: its sockets or NUMA nodes, within them the groups of cores\n"
+            "that share a last-level cache, and one thread for each core. A group with one member is left out.\n"
+            "Each threshold is the number of the domain's members: as long as nobody stalls, no thread waits\n"
+            "longer than under a fair lock. FILE is what `lscpu -p=CPU,CORE,SOCKET,NODE,CACHE` printed on another\n"
+            "computer; without FILE, lscpu runs on this one.\n"
             "\n"
             "  --smt          one thread for each logical processor\n"
             "  --threads N    N threads, spread evenly over the cores\n"
-            "  --workers      which processor each thread is meant for, instead of the text\n"
+            "  --workers      prints which processor each thread is for, instead of the text\n"
             "  --csv, --json  the same for programs\n"
             "\n"
             "  hmcs tree \"$(hmcs machine)\"\n",

@@ -1,4 +1,4 @@
-// The command: `hmcs WORD ..`. Finds the word, reads what follows it, prints what it gives, and ends with 0 accepted, 1 refused or 2 not done.
+// The command: `hmcs WORD ..`. Finds the word, reads the rest, prints the result, and ends with 0 accepted, 1 refused or 2 not done.
 #include "html.hpp"
 #include "tool.hpp"
 
@@ -17,12 +17,12 @@ std::vector<tool::Command> commands() {
 
 std::string help() {
     std::string text = "usage: hmcs COMMAND ..\n"
-                       "Tries a hierarchical MCS lock: trees, schedules, what a run does, and which threshold to take.\n\n";
+                       "Simulates a hierarchical MCS lock: trees, schedules, runs, and how to choose thresholds.\n\n";
     for (const tool::Command &command : commands()) {
         text += "  " + std::string(command.name) + std::string(9 - std::strlen(command.name), ' ') + command.line + "\n";
     }
-    return text + "\n`hmcs COMMAND --help` says more, with an example. `hmcs --version` prints the version. Figures come\n"
-                  "from the proved library.\n"
+    return text + "\n`hmcs COMMAND --help` says more and gives an example. `hmcs --version` prints the version.\n"
+                  "All figures come from the proved library.\n"
                   "`-` in place of a file is standard input or, after -o, standard output; `--` ends the options.\n"
                   "Exit status: 0 accepted, 1 refused, 2 not done: wrong usage, or a file that cannot be read or written.\n";
 }
@@ -58,7 +58,7 @@ std::string obey(const std::vector<std::string> &words) {
     tool::fail("unknown command " + words[0] + "; --help lists them");
 }
 
-// What cannot be written is an error. A pipe that nobody reads any more ends the command without a word, as it ends other programs.
+// A failed write is an error. A broken pipe ends the command without a message, as it ends other programs.
 void print(const std::string &text) {
     errno = 0;
     if (std::fwrite(text.data(), 1, text.size(), stdout) != text.size() || std::fflush(stdout) != 0) {
@@ -77,7 +77,7 @@ int main(int count, char **words) {
     } catch (const tool::Stop &stop) {
         std::fputs(("hmcs: " + stop.said).c_str(), stderr);
         return stop.status;
-    } catch (const std::exception &exception) { // of the standard library, as where memory runs out
+    } catch (const std::exception &exception) { // from the standard library, for example if memory runs out
         std::fprintf(stderr, "hmcs: %s\n", exception.what());
         return tool::failed;
     }

@@ -10,7 +10,7 @@ namespace {
 Input lock_of(const Words &words) {
     if (words.others().size() == 1) {
         if (words.has("--ticket")) {
-            fail("--ticket goes with a tree as text; what `show` printed says itself what its root is");
+            fail("--ticket goes with a tree as text; what `show` printed already says what its root is");
         }
         return read_shown(words.others()[0]);
     }
@@ -26,7 +26,7 @@ Input lock_of(const Words &words) {
 std::string make(const Words &words) {
     const std::string path = words.value("-o", "");
     if (path.empty()) {
-        fail("make: -o FILE says where the lock file goes");
+        fail("make: -o FILE is required: the lock file to write");
     }
     const Input input = lock_of(words);
     const hmcs::WriteResult result = hmcs::write_file(input.tree, input.schedule);
@@ -48,16 +48,16 @@ Command make_command() {
             "writes a lock file from a tree and a schedule",
             "usage: hmcs make TREE SCHEDULE -o FILE [--ticket]\n"
             "       hmcs make SHOWN -o FILE\n"
-            "Writes the lock file of a tree and a schedule; no lock file for them is shorter. TREE is as for\n"
-            "`hmcs tree`. A schedule is a list of turns, each a thread that takes one step: a file of thread\n"
-            "numbers, or one that is made here, the same everywhere:\n"
+            "Writes the shortest lock file of a tree and a schedule. TREE is as for `hmcs tree`. A schedule is a\n"
+            "list of turns; each turn lets one thread take one step. It is a file of thread numbers, or is\n"
+            "generated, with the same result on every machine:\n"
             "\n" +
                 std::string(schedule_help) +
                 "\n"
-                "SHOWN is a file with what `hmcs show` printed.\n"
+                "SHOWN is a file with the output of `hmcs show`.\n"
                 "\n"
-                "  -o FILE   where the lock file goes\n"
-                "  --ticket  the root of a text is a ticket lock\n"
+                "  -o FILE   the lock file to write\n"
+                "  --ticket  the root of a tree given as text is a ticket lock\n"
                 "\n"
                 "  hmcs make '(16(#4) 16(#4))' busy:4000:1 -o two-sockets.lock\n",
             {{"-o", true}, {"--ticket", false}},

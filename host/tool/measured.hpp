@@ -21,16 +21,16 @@ struct Missing {
     // Whether the waits may be compared with those of another run: every thread entered, and no attempt under way has waited longer than all
     // that ended.
     bool comparable() const { return never_entered == 0 && longest_under_way <= largest_finished; }
-    // Of two runs of one tree, the worse of each.
+    // The worse of each figure of two runs of one tree.
     Missing worst(const Missing &other) const;
-    // What the largest wait is at least, those under way among them.
+    // A lower bound of the largest wait, including attempts under way.
     std::uint64_t at_least() const { return std::max(largest_finished, longest_under_way); }
-    // Why not, for standard error; empty where they may be compared.
+    // Why not, for standard error; empty if they may be compared.
     std::string why_not() const;
 };
 
-// Says on standard error, where somebody is missing, which schedule would do better.
-void warn_how_to_compare(bool missing);
+// Says on standard error which schedule would do better if a thread is missing, or if some thread entered too few times for a mean.
+void warn_how_to_compare(bool missing, std::uint64_t fewest_entries);
 
 // The counts of a schedule of any length.
 struct Totals {
@@ -49,11 +49,11 @@ struct Measured {
     hmcs_state state;                     // after the run
 
     Missing missing() const;
-    // The same of some threads alone.
+    // The same for some of the threads.
     Missing missing(const std::vector<std::size_t> &some) const;
 };
 
-// Runs a schedule from a fresh lock of the tree, as many turns at a time as the library takes. The place of a refusal is one in the whole schedule.
+// Runs a schedule from a fresh lock of the tree, as many turns at a time as the library accepts. The place of a refusal refers to the whole schedule.
 Measured measure(const hmcs::Tree &tree, const std::vector<std::uint16_t> &turns);
 
 } // namespace tool

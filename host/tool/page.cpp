@@ -1,4 +1,4 @@
-// `page`: a run to look at.
+// `page`: a page about a run.
 #include "html.hpp"
 #include "tenures.hpp"
 #include "timeline.hpp"
@@ -36,7 +36,7 @@ std::string counts_section(const Totals &c) {
 std::string timeline_section(const hmcs::Tree &tree, const Recording &recording, std::size_t from, std::size_t count) {
     const bool gathered = are_gathered(tree, recording.turns);
     const std::string words =
-        gathered ? "Each column stands for several turns: a thread that was inside in one of them is shown inside, else as what it did longest." : "";
+        gathered ? "Each column covers several turns: a thread that was inside in one of them is shown inside, otherwise as what it did longest." : "";
     std::string shown = section("Who did what", words, legend(doing_shades()) + lanes(tree, recording, 0, recording.turns));
     const std::size_t to = std::min(recording.turns, from + count);
     if (from < to && (gathered || from > 0 || to < recording.turns)) {
@@ -84,7 +84,7 @@ std::string waits_section(const hmcs::Tree &tree, const Measured &result) {
     const bool few = result.threads.size() <= 40;
     const std::string shown = few ? bars : folded("Of all " + std::to_string(result.threads.size()) + " threads", bars, false);
     return section("Waits",
-                   "How many entries of others an attempt waited for. Means are those of attempts that ended; a hatched thread never entered, or its attempt "
+                   "How many entries of others an attempt waited for. Means cover only attempts that ended; a hatched thread never entered, or its attempt "
                    "under way has waited longer than all that it finished.",
                    shown + folded("The waits as a table, the means as exact fractions",
                                   scrolled(waits_table(tree, result), "Waits of each thread, in entries of others"), false));
@@ -103,17 +103,17 @@ std::string tenures_section(const hmcs::Tree &tree, const Measured &measured) {
     }
     const std::string head = "<caption>Longest tenure of each domain</caption><thead><tr><th scope=col class=left>domain<th scope=col class=left>longest "
                              "tenure, of the threshold</thead>";
-    return section("Tenures", "How many members of a domain held the lock one after another at most, of as many as its threshold allows.",
+    return section("Tenures", "The most members of a domain that held the lock one after another, out of its threshold.",
                    "<table class=\"wide\">" + head + "<tbody>\n" + rows + "</tbody></table>\n" +
                        folded("The tenures as a table", scrolled(tenures_table(tree, measured), "Entries and tenures of each domain"), false));
 }
 
-// What the page says first: how many entered, and who is missing.
+// The first sentences of the page: how many entries, and which threads are missing.
 std::string first_words(const Measured &measured) {
     const Missing missing = measured.missing();
     const Totals &c = measured.counts;
-    const std::string split =
-        std::to_string(c.entries) + " entries in " + std::to_string(c.steps) + " turns, of which " + percent(c.root, c.entries) + " went through the root.";
+    const std::string split = std::to_string(c.entries) + " entries in " + std::to_string(c.steps) + " turns; " + percent(c.root, c.entries) +
+                              " of the entries went through the root.";
     if (missing.comparable()) {
         return split + " Every thread entered, at least " + std::to_string(missing.fewest_entries) + " times; the largest wait was " +
                std::to_string(missing.largest_finished) + " entries of others.";
@@ -121,7 +121,7 @@ std::string first_words(const Measured &measured) {
     return split + " The waits cannot be compared with those of another run: " + missing.why_not() + ".";
 }
 
-// The turn by turn part begins shortly before the first entry unless another turn is asked for.
+// The turn by turn part begins shortly before the first entry unless --from says otherwise.
 std::size_t first_shown(const Words &words, const Recording &recording) {
     if (words.has("--from")) {
         return number("--from", words.value("--from", ""), UINT32_MAX);
@@ -134,7 +134,7 @@ std::size_t first_shown(const Words &words, const Recording &recording) {
 std::string page(const Words &words) {
     const std::string path = words.value("-o", "");
     if (path.empty()) {
-        fail("page: -o OUT.html says where the page goes");
+        fail("page: -o OUT.html is required: the page to write");
     }
     const Input input = read_run(words);
     const std::size_t count = number("--count", words.value("--count", "200"), UINT32_MAX);
@@ -161,18 +161,17 @@ std::string page(const Words &words) {
 
 Command page_command() {
     return {"page",
-            "a page that shows a lock file's run",
+            "writes a page about a lock file's run",
             "usage: hmcs page FILE -o OUT.html [--from K] [--count N]\n"
             "       hmcs page TREE --schedule S -o OUT.html [--ticket] ..\n"
-            "Writes one self-contained page on a lock file's run: the tree; how the entries split; a timeline,\n"
-            "one lane per thread, by home, coloured by what the thread does; the entries with their kinds; and\n"
-            "the waits. It needs no script and nothing from elsewhere. If there are more turns than the page\n"
-            "has columns, several share a column, and some turns are shown one by one as well.\n"
+            "Writes one self-contained page about a lock file's run: the tree, how the entries split, a timeline\n"
+            "with one lane per thread, grouped by home and coloured by what the thread does, the entries with\n"
+            "their kinds, and the waits. It needs no script and loads nothing. If there are more turns than the\n"
+            "page has columns, several turns share a column, and some turns are also shown one by one.\n"
             "\n"
-            "  -o OUT.html  where the page goes\n"
-            "  --from K     the first of the turns that are shown one by one; if not given, shortly before the first\n"
-            "               entry\n"
-            "  --count N    how many of them, 200 if not given\n" +
+            "  -o OUT.html  the page to write\n"
+            "  --from K     the first turn to show one by one (default: shortly before the first entry)\n"
+            "  --count N    how many turns to show one by one (default: 200)\n" +
                 std::string(run_help) +
                 "\n"
                 "  hmcs page two-sockets.lock -o two-sockets.html\n",

@@ -16,7 +16,7 @@ namespace tool {
 
 namespace {
 
-// Runs that wait, and how many are done. The first exception of a job ends them all.
+// Waiting runs, and how many are done. The first exception of a job ends them all.
 class Jobs {
   public:
     Jobs(std::size_t count, const std::function<void(std::size_t)> &run) : count_(count), run_(run) {}
@@ -37,7 +37,7 @@ class Jobs {
         changed_.notify_one();
     }
 
-    // Waits until this many jobs have ended; after two seconds it says on a terminal how far they are.
+    // Waits until this many jobs have ended; after two seconds it shows the progress on a terminal.
     void await(std::size_t jobs) {
         const bool shown = isatty(STDERR_FILENO) != 0;
         std::unique_lock<std::mutex> held(mutex_);
@@ -83,7 +83,7 @@ void run_each(std::size_t count, std::size_t jobs, const std::function<void(std:
         }
     }
     if (threads.empty() && count > 0) {
-        fail("the system gives no thread to run it");
+        fail("the system could not start a thread");
     }
     all.await(threads.size());
     for (std::thread &thread : threads) {

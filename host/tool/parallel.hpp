@@ -9,9 +9,9 @@ namespace tool {
 
 class Words;
 
-// Calls it for 0 up to the count; on a terminal it says how far it is where it takes long.
+// Calls the job with 0 up to the count - 1; if it takes long, it shows the progress on a terminal.
 void run_each(std::size_t count, std::size_t jobs, const std::function<void(std::size_t)> &run);
-// The option --jobs, by default as many as there are processors.
+// The option --jobs; the default is the number of processors.
 std::size_t jobs_of(const Words &words);
 
 } // namespace tool

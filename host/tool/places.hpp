@@ -11,7 +11,7 @@ enum Doing { idle, rising, waiting, inside, releasing, doings };
 
 Doing doing_at(std::uint8_t row);
 const char *doing_text(Doing doing);
-// Where a thread stands: "is idle", "is in Help of domain 2".
+// Where a thread is: "is idle", "is in Help of domain 2".
 std::string standing(const hmcs_state &state, std::uint32_t thread);
 
 } // namespace tool

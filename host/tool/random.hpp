@@ -1,4 +1,4 @@
-// The generator of all schedules that are made here, the same on every machine.
+// The generator of all generated schedules, the same on every machine.
 #ifndef HMCS_RANDOM_HPP
 #define HMCS_RANDOM_HPP
 

@@ -25,13 +25,13 @@ std::string rate(const Words &words) {
 
 Command rate_command() {
     return {"rate",
-            "how many entries a busy lock makes in a unit of time",
+            "how many entries a busy lock makes per unit of time",
             "usage: hmcs rate H1 H2 P1 P2 P3\n"
             "Prints how many entries a busy lock of three levels makes in one unit of time, without a run. H1\n"
             "is the threshold of the threads' homes, H2 that of the domains between them and the root; P1, P2\n"
             "and P3 are how long it takes to pass the lock on within a home, between homes and across the root,\n"
-            "in one unit, each from 1/1024 to 1,048,576. The digits are the shortest that read back as the same\n"
-            "number.\n"
+            "in the same unit, each from 1/1024 to 1,048,576. The output is the shortest number that reads back\n"
+            "as the same value.\n"
             "\n"
             "  hmcs rate 16 4 0.05 0.2 1\n",
             {},

@@ -67,14 +67,14 @@ std::string run(const Words &words) {
 
 Command run_command() {
     return {"run",
-            "what a lock file's run counts",
+            "the counts of a lock file's run",
             "usage: hmcs run FILE [--trace | --csv | --json]\n"
             "       hmcs run TREE --schedule S [--ticket] ..\n"
             "Runs the schedule of a lock file from a fresh lock and prints its counts: steps, how many of them\n"
-            "were stays, entries and how they split; and how many threads and attempts these leave out: threads\n"
-            "that never entered, and attempts that had not ended.\n"
+            "were stays, entries and how they split. It also prints what these leave out: threads that never\n"
+            "entered and attempts that had not ended.\n"
             "\n"
-            "  --trace        the entering threads instead, one per line\n"
+            "  --trace        prints the entering threads instead, one per line\n"
             "  --csv, --json  for programs\n" +
                 std::string(run_help) +
                 "\n"

@@ -12,13 +12,13 @@ namespace tool {
 
 const char *const usual_schedule = "busy:65536:1";
 
-const char *const schedule_help = "  busy:COUNT:SEED           any thread that can move, so that no turn is lost\n"
-                                  "  busy:COUNT:SEED:WORK      the same, and a thread that has let the lock go pauses for 0 to 2*WORK turns\n"
-                                  "  random:COUNT:SEED         any thread, also one that can only wait\n"
-                                  "  bursts:COUNT:SEED:LENGTH  any thread, for 1 to LENGTH turns in a row\n"
+const char *const schedule_help = "  busy:COUNT:SEED           a random thread that can move, so no turn is wasted\n"
+                                  "  busy:COUNT:SEED:WORK      the same, but after releasing the lock a thread pauses for 0 to 2*WORK turns\n"
+                                  "  random:COUNT:SEED         a random thread, even if it can only wait\n"
+                                  "  bursts:COUNT:SEED:LENGTH  a random thread, for 1 to LENGTH turns in a row\n"
                                   "  turns:COUNT               the threads in turn, 0, 1, 2 and so on\n"
                                   "  journal:FILE              the turns that a plugin's journal recorded\n"
-                                  "  FILE                      thread numbers with white space between them\n";
+                                  "  FILE                      thread numbers separated by white space\n";
 
 namespace {
 
@@ -47,13 +47,13 @@ std::vector<std::uint16_t> in_turn(std::uint64_t count, std::uint32_t threads) {
     return schedule;
 }
 
-// The threads of a journal's entries, in their order. What is cut off or has another bit set is refused by the place of its entry.
+// The threads of a journal's entries, in order. An entry that is cut off or has another bit set is refused, with its place.
 std::vector<std::uint16_t> turns_of_journal(const std::string &path) {
     const Journal journal = journal_of(read_bytes(path, SIZE_MAX));
     if (journal.broken) {
         refuse(path, hmcs::Refusal{HMCS_JOURNAL_BROKEN, journal.end});
     }
-    warn(path + ": a recording depends on the thresholds of the lock that made it; with others the threads would have come in another order");
+    warn(path + ": a recording depends on the thresholds of the recorded lock; with others the threads would come in another order");
     return journal.threads();
 }
 
@@ -154,7 +154,7 @@ std::vector<std::uint16_t> turns_of(const std::string &path, const std::string &
         if (behind != bytes.data() + end || error == std::errc::invalid_argument) {
             fail(path + ": turn " + std::to_string(schedule.size()) + " must be a thread number, not \"" + word + "\"");
         }
-        // a number above 65,535 is refused as 65,535 is
+        // a number above 65,535 is refused like 65,535
         schedule.push_back(static_cast<std::uint16_t>(error == std::errc() ? std::min<std::uint64_t>(thread, 65535) : 65535));
         at = end;
     }

@@ -1,4 +1,4 @@
-// Schedules by name: a file of thread numbers, or made here, the same from the same words on every machine.
+// Schedules by name: a file of thread numbers, or generated, with the same result on every machine.
 #ifndef HMCS_SCHEDULES_HPP
 #define HMCS_SCHEDULES_HPP
 
@@ -14,11 +14,11 @@ class Schedule {
     // turns:COUNT, random:COUNT:SEED, bursts:COUNT:SEED:LENGTH, busy:COUNT:SEED[:WORK], or a file, which is read here. A seed may be a range, such
     // as 1..20.
     explicit Schedule(const std::string &word);
-    // Turns that are already there, by a name for people.
+    // Existing turns, with a name for people.
     Schedule(const std::string &name, const std::vector<std::uint16_t> &turns) : name_(name), kind_(Kind::given), given_(turns) {}
 
     const std::string &name() const { return name_; }
-    // One schedule for each seed of a range; of any other schedule itself alone.
+    // One schedule for each seed of a range; any other schedule gives only itself.
     std::vector<Schedule> by_seed() const;
     bool has_seeds() const { return last_seed_ > seed_; }
     // The turns for an accepted tree. Those of `busy` depend on its thresholds, all others only on the number of its threads.
@@ -27,7 +27,7 @@ class Schedule {
   private:
     enum class Kind { given, turns, random, bursts, busy };
 
-    // The turns of a file; one that names no thread of the tree is refused, with its place.
+    // The turns of a file; a turn that names no thread of the tree is refused, with its place.
     std::vector<std::uint16_t> tested(std::uint32_t threads) const;
 
     std::string name_;
@@ -37,7 +37,7 @@ class Schedule {
     std::uint64_t seed_ = 0, last_seed_ = 0;
 };
 
-// The schedule that is run where none is named.
+// The default schedule.
 extern const char *const usual_schedule;
 
 // The forms of a schedule's name, a line each, for the help of commands.

@@ -1,4 +1,4 @@
-// `show`: what is in a lock file.
+// `show`: the contents of a lock file.
 #include "tool.hpp"
 #include "trees.hpp"
 
@@ -24,7 +24,7 @@ std::string show(const Words &words) {
     const Input input = read_lock_file(path);
     const std::optional<std::string> text = text_of(input.tree);
     if (words.has("--tree") && words.has("--schedule")) {
-        fail("show: one of --tree and --schedule, or neither");
+        fail("show: give --tree or --schedule, not both");
     }
     if (words.has("--schedule")) {
         return numbers(input.schedule);
@@ -46,13 +46,13 @@ Command show_command() {
     return {"show",
             "the tree and the schedule of a lock file",
             "usage: hmcs show FILE [--tree | --schedule]\n"
-            "Prints what is in a lock file: its tree as text and as `hmcs tree` shows it, and its schedule\n"
+            "Prints the contents of a lock file: its tree as text and as `hmcs tree` shows it, and its schedule\n"
             "as thread numbers.\n"
             "\n"
-            "  --tree      the tree's text alone\n"
-            "  --schedule  the thread numbers alone\n"
+            "  --tree      only the tree's text\n"
+            "  --schedule  only the thread numbers\n"
             "\n"
-            "What it shows makes the same file again, if that is as short as a lock file can be:\n"
+            "`hmcs make` turns the output into the same file again, if that file is as short as possible:\n"
             "\n"
             "  hmcs show two-sockets.lock >shown\n"
             "  hmcs make shown -o again.lock\n",

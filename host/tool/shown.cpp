@@ -1,4 +1,4 @@
-// What `show` printed, read again: the table of the tree, one domain per line, and the schedule after it.
+// Reads the output of `show`: the table of the tree, one domain per line, and the schedule after it.
 #include "tool.hpp"
 
 #include <sstream>
@@ -7,7 +7,7 @@ namespace tool {
 
 namespace {
 
-[[noreturn]] void fail_at(const std::string &path, const std::string &line) { fail(path + ": `show` prints no such line: " + line); }
+[[noreturn]] void fail_at(const std::string &path, const std::string &line) { fail(path + ": not a line that `show` prints: " + line); }
 
 // The threads at home in a domain, as ranges: "0-3 8".
 void add_threads(const std::string &path, const std::string &word, std::uint32_t domain, hmcs_tree &words) {
@@ -20,8 +20,8 @@ void add_threads(const std::string &path, const std::string &word, std::uint32_t
     }
 }
 
-// One line of the table: the domain indented by its level, and after it level, threshold, allowance and, where threads are at home, longest wait and
-// threads. The path has the domain of each level.
+// One line of the table: the domain indented by its level, then level, threshold, allowance and, for a home, longest wait and threads. The path has
+// the domain of each level.
 void add_domain(const std::string &path, const std::string &line, std::vector<std::uint32_t> &above, hmcs_tree &words) {
     std::istringstream parts(line);
     std::string name, level, threshold, allowance, thread;
@@ -66,7 +66,7 @@ Input read_shown(const std::string &path) {
         add_domain(path, line, above, words);
     }
     if (words.domains == 0 || !std::getline(lines, line) || line.rfind("schedule: ", 0) != 0) {
-        fail(path + ": this is not what `show` prints; a schedule must follow the tree");
+        fail(path + ": not the output of `show`; a schedule must follow the tree");
     }
     const std::string turns((std::istreambuf_iterator<char>(lines)), std::istreambuf_iterator<char>());
     return Input{hmcs::Tree::of(words), turns_of(path, turns), true};

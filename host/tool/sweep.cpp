@@ -1,4 +1,4 @@
-// `sweep`: which threshold? One row for each that is tried.
+// `sweep`: tries thresholds, one row for each.
 #include "sweep.hpp"
 #include "parallel.hpp"
 #include "tool.hpp"
@@ -60,7 +60,7 @@ void add_thresholds(const std::string &part, std::vector<std::uint16_t> &thresho
     const std::uint64_t last = threshold_of(part.substr(dots + 2, times == std::string::npos ? times : times - dots - 2));
     const std::uint64_t factor = times == std::string::npos ? 1 : number("--thresholds", part.substr(times + 1), 65535);
     if (first > last || (times != std::string::npos && factor < 2)) {
-        fail("--thresholds: " + part + " must go up, as 1..8 or 1..64x2 does");
+        fail("--thresholds: " + part + " must go up, like 1..8 or 1..64x2");
     }
     for (std::uint64_t threshold = first; threshold <= last; threshold = factor == 1 ? threshold + 1 : threshold * factor) {
         thresholds.push_back(static_cast<std::uint16_t>(threshold));
@@ -79,7 +79,7 @@ std::vector<Axis> axes_of(const Words &words, const hmcs::Tree &tree) {
     const std::vector<std::pair<std::string, std::string>> groups = words.given({"--domain", "--level"});
     const std::vector<std::string> thresholds = words.values("--thresholds");
     if (groups.empty() || thresholds.empty()) {
-        fail("sweep: --level (or --domain) and --thresholds say what is tried; --help has an example");
+        fail("sweep: --level (or --domain) and --thresholds are required; --help has an example");
     }
     if (thresholds.size() != 1 && thresholds.size() != groups.size()) {
         fail("sweep: --thresholds must be given once for all groups of domains, or once for each");
@@ -162,11 +162,13 @@ std::string sweep(const Words &words) {
         }
     }
     bool missing = false;
+    std::uint64_t fewest = UINT64_MAX;
     for (const SweepRow &row : sweep.rows) {
         warn_of(name_of(sweep, row), row.trial);
         missing = missing || !row.trial.missing.comparable();
+        fewest = std::min(fewest, row.trial.missing.fewest_entries);
     }
-    warn_how_to_compare(missing);
+    warn_how_to_compare(missing, fewest);
     if (words.has("--page")) {
         std::vector<std::string> inputs = words.values("--schedule");
         inputs.push_back(words.others()[0]);
@@ -241,45 +243,45 @@ Table sweep_table(const Sweep &sweep) {
 
 Command sweep_command() {
     return {"sweep",
-            "which threshold? one row for each that is tried",
+            "tries thresholds, one row for each",
             "usage: hmcs sweep TREE (--level L | --domain D[,D..]).. --thresholds T [--schedule S ..]\n"
             "                       [--times P1,P2,P3 [--hold H]] [--jobs N] [--csv | --json] [--page OUT.html] [--ticket]\n"
             "Runs schedules on a tree with one threshold after another, each from a fresh lock, and prints a\n"
             "row for each: entries and how they split (root, crossed, passed), stays, the largest and the mean\n"
-            "wait of all threads, in other threads' entries, the longest tenure of the domains, and the largest\n"
+            "wait of all threads in entries of other threads, the longest tenure of the domains, and the largest\n"
             "allowance of the root's members: how many entries the threads under one may make while another\n"
-            "waits. TREE and S are as for `hmcs make`; if none is named, a lock file's own schedule is run, or\n"
+            "waits. TREE and S are as for `hmcs make`. Without --schedule, a lock file's own schedule runs, or\n"
             "busy:65536:1.\n"
             "\n"
-            "Waits are those of attempts that ended. So each row also says how many threads never entered, the\n"
-            "entries of the thread that entered least, and how many attempts were still under way, with the\n"
-            "longest of them so far. The longest possible wait is proved and holds for every schedule, as long as\n"
-            "nobody stalls. A row in which a thread never entered, or in which an attempt under way has\n"
-            "waited longer than all that ended, is marked NO: its waits cannot be compared with other rows.\n"
+            "Waits cover only attempts that ended. So each row also shows how many threads never entered, the\n"
+            "entries of the thread that entered least, how many attempts were still under way, and the longest\n"
+            "of these so far. The longest possible wait is proved for every schedule as long as nobody stalls. A\n"
+            "row is marked NO if a thread never entered or an attempt under way has waited longer than all that\n"
+            "ended: its waits cannot be compared with other rows.\n"
             "\n"
             "  --level L          all domains of a level get the threshold; the root is level 1\n"
-            "  --domain D[,D..]   these domains get it. If --level or --domain is given again, every\n"
-            "                     combination is tried\n"
+            "  --domain D[,D..]   these domains get it. If --level or --domain is repeated, every combination is\n"
+            "                     tried\n"
             "  --thresholds T     which thresholds: 1,2,5 or 1..8 or 1..64x2 (1, 2, 4, .. 64); once for all\n"
-            "                     groups of domains, or once for each, in their order\n"
-            "  --schedule S       what is run; if given again, each threshold has a row for each. A seed may be a\n"
-            "                     range: with busy:65536:1..20 twenty schedules are run, the counts are their sums\n"
-            "                     and the largest wait is the worst of them, with the least beside it\n"
+            "                     groups of domains, or once for each, in order\n"
+            "  --schedule S       the schedule to run; if repeated, each threshold has a row for each. A seed may\n"
+            "                     be a range: busy:65536:1..20 runs twenty schedules, adds up their counts and\n"
+            "                     shows the worst of the largest waits, and the least next to it\n"
             "  --each-seed        one row for each seed instead\n"
             "  --times P1,P2,P3   how long it takes to pass the lock on at home, between homes and across the root:\n"
             "                     adds the time per entry, (P1*passed + P2*crossed + P3*root) / entries, and in an\n"
-            "                     even tree of two or three levels that of `hmcs rate`; where all threads are\n"
+            "                     even tree of two or three levels the time by `hmcs rate`; if all threads are\n"
             "                     busy, the two should agree\n"
-            "  --hold H           how long a thread keeps the lock: adds what the longest possible wait is in time at\n"
-            "                     most, (wait + 1) * (H + the longest passing time). This is arithmetic on your own\n"
-            "                     figures, not proved\n"
-            "  --jobs N           how many runs at a time, by default as many as there are processors\n"
+            "  --hold H           how long a thread keeps the lock: adds an upper bound of the longest possible wait\n"
+            "                     in time, (wait + 1) * (H + the longest passing time). This is arithmetic on your\n"
+            "                     own figures, not proved\n"
+            "  --jobs N           how many runs at a time (default: the number of processors)\n"
             "  --csv, --json      for programs\n"
-            "  --page OUT.html    writes a page with charts as well\n"
-            "  --ticket           the root of a text is a ticket lock\n"
+            "  --page OUT.html    also writes a page with charts\n"
+            "  --ticket           the root of a tree given as text is a ticket lock\n"
             "\n"
-            "The sockets of a two-socket machine are level 2 here; with a larger threshold the lock goes from\n"
-            "socket to socket less often, and a thread may wait longer:\n"
+            "Here the sockets of a two-socket machine are level 2. With a larger threshold the lock moves\n"
+            "between sockets less often, and a thread may wait longer:\n"
             "\n"
             "  hmcs sweep '(16(4(#4) 4(#4)) 16(4(#4) 4(#4)))' --level 2 --thresholds 1..64x2\n",
             with_table_options({{"--domain", true},

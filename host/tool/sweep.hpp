@@ -6,7 +6,7 @@
 
 namespace tool {
 
-// Domains that get one threshold together, and which ones are tried.
+// Domains that share a threshold, and the thresholds to try.
 struct Axis {
     std::string name; // "domains 1,4", "level 2"
     std::vector<std::uint32_t> domains;
@@ -29,7 +29,7 @@ struct Sweep {
     std::vector<SweepRow> rows; // schedule by schedule, the last axis fastest
 };
 
-// "threshold 16", or with the schedule where there are several.
+// "threshold 16", with the schedule if there are several.
 std::string name_of(const Sweep &sweep, const SweepRow &row);
 Table sweep_table(const Sweep &sweep);
 std::string sweep_page(const Sweep &sweep);

@@ -7,7 +7,7 @@ namespace tool {
 
 namespace {
 
-// The wait as the page says it: one that is not known to be the largest says so.
+// The wait as the page shows it: "at least" if it is not known to be the largest.
 std::string wait_text(const SweepRow &row) {
     return row.trial.missing.comparable() ? std::to_string(row.trial.waits.largest) : "at least " + std::to_string(row.trial.missing.at_least());
 }
@@ -142,7 +142,7 @@ std::string sweep_page(const Sweep &sweep) {
     std::string body;
     for (std::size_t schedule = 0; schedule < sweep.schedules.size(); ++schedule) {
         body += section("Schedule " + sweep.schedules[schedule].name(),
-                        "A root entry took the lock across the root, which is slow; a passed one came from a neighbour, which is fast. As a rule a larger "
+                        "A root entry took the lock across the root, which is slow; a passed one came from a neighbour, which is fast. Usually a larger "
                         "threshold has fewer root entries and longer waits.",
                         two_axes ? grid(sweep, schedule) : legend(kind_shades()) + chart(sweep, schedule));
     }
@@ -152,9 +152,9 @@ std::string sweep_page(const Sweep &sweep) {
                     "<div class=\"scroll\">" + tree_table(sweep.tree).html("The domains, each below its parent") + "</div>\n");
     const bool stalled = std::any_of(sweep.rows.begin(), sweep.rows.end(), [](const SweepRow &row) { return row.trial.stalled(); });
     return page_of("Which threshold?", first_words(sweep),
-                   std::string("Waits are counted in entries of other threads, not in time. They are those of attempts that ended; each row also says which "
+                   std::string("Waits are counted in entries of other threads, not in time. They cover only attempts that ended; each row also says which "
                                "threads and attempts they leave out.") +
-                       (stalled ? " Where a largest wait is above the longest possible one, a thread that could move was passed over meanwhile." : ""),
+                       (stalled ? " If a largest wait is above the longest possible one, a thread that could move got no turn meanwhile." : ""),
                    body);
 }
 

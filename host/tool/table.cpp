@@ -154,7 +154,7 @@ std::string percent(std::uint64_t part, std::uint64_t whole) { return share(part
 
 namespace {
 
-// How many bytes the UTF-8 character has that begins here; 0 where none does.
+// The number of bytes of the UTF-8 character that begins here; 0 if none does.
 std::size_t character_length(const std::string &text, std::size_t at) {
     const auto byte = [&](std::size_t k) { return k < text.size() ? static_cast<unsigned char>(text[k]) : 0u; };
     const unsigned first = byte(at);

@@ -11,7 +11,7 @@ namespace tool {
 
 enum class Side { left, right };
 
-// What a program reads in a cell: a number, a text, a truth value, or nothing.
+// A cell for programs: a number, a text, a truth value, or nothing.
 struct Value {
     enum class Kind { nothing, number, text, truth };
 
@@ -39,7 +39,7 @@ class Table {
     void cell(std::uint64_t number) { cell(std::to_string(number), Value(number)); }
     void cell(const std::string &text, const Value &value) { rows_.back().cells.push_back({text, {value}}); }
     void mean(std::uint64_t numerator, std::uint64_t denominator);
-    // A mean that people had better not see: they read the text instead.
+    // A mean that is hidden from people; the text is shown instead.
     void mean(std::uint64_t numerator, std::uint64_t denominator, const std::string &text);
 
     std::string text() const;
@@ -74,7 +74,7 @@ std::string share(std::uint64_t part, std::uint64_t whole);
 std::string percent(std::uint64_t part, std::uint64_t whole);
 // A text in which each byte that is not part of UTF-8 is replaced by U+FFFD.
 std::string as_utf8(const std::string &text);
-// A text as HTML shows it.
+// A text escaped for HTML.
 std::string escaped(const std::string &text);
 
 } // namespace tool

@@ -36,7 +36,7 @@ std::string tenures(const Words &words) {
     }
     if (const Missing missing = measured.missing(); !missing.comparable()) {
         warn(words.others()[0] + ": " + missing.why_not() + "; its entries cannot be compared");
-        warn_how_to_compare(true);
+        warn_how_to_compare(true, missing.fewest_entries);
     }
     return printed(words, tenures_table(input.tree, measured));
 }
@@ -83,7 +83,7 @@ Command tenures_command() {
             "       hmcs tenures TREE --schedule S [--ticket] ..\n"
             "Runs the schedule of a lock file from a fresh lock and prints for each domain, indented below its\n"
             "parent, how many entries its threads made, how many tenures it had, and the longest: how many of\n"
-            "its members held the lock one after another before it was handed on above. A tenure is a period at\n"
+            "its members held the lock one after another before it was passed on above. A tenure is a period at\n"
             "the head of the queue above. None is longer than the threshold. The last four columns are about the\n"
             "threads under the domain: the entries of the one that entered least, how many never entered, how\n"
             "many attempts had not ended, and how long the longest of these has waited so far, in entries of\n"

@@ -1,4 +1,4 @@
-// The table of what a lock's state has counted for its domains, as `tenures` prints it and `page` shows it.
+// The table of a lock's counters for its domains, as `tenures` prints it and `page` shows it.
 #ifndef HMCS_TENURES_HPP
 #define HMCS_TENURES_HPP
 

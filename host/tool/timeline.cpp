@@ -13,7 +13,7 @@ constexpr std::size_t least_named_height = 14; // pixels that a name takes
 
 const char *const doing_classes[doings] = {"idle", "rising", "waiting", "inside", "releasing"};
 
-// Columns of about a pixel, and fewer for many threads, so that a page stays small.
+// Columns of about a pixel, and fewer for many threads, to keep the page small.
 std::size_t columns_of(const hmcs::Tree &tree, std::size_t turns) {
     return std::min(turns, std::min<std::size_t>(1200, std::max<std::size_t>(300, 100000 / tree.words().threads)));
 }
@@ -32,7 +32,7 @@ struct Window {
     }
 };
 
-// What a thread did in each column: inside where it was inside at all, so that every entry is seen, else what it did the longest.
+// What a thread did in each column: inside if it was inside at all, so every entry is visible, else what it did longest.
 std::vector<Doing> gathered(const std::vector<Change> &changes, const Window &window) {
     std::vector<Doing> shown;
     std::size_t next = 0;

@@ -1,4 +1,4 @@
-// What every thread did over a run, as lanes that a page shows.
+// What every thread did in a run, as lanes of a page.
 #ifndef HMCS_TIMELINE_HPP
 #define HMCS_TIMELINE_HPP
 
@@ -31,7 +31,7 @@ Recording record(const hmcs::Tree &tree, const std::vector<std::uint16_t> &sched
 
 // The lanes of some turns: three for the kinds of entry, then one for each thread, by home.
 std::string lanes(const hmcs::Tree &tree, const Recording &recording, std::size_t from, std::size_t to);
-// Whether there are more turns than lanes have columns, so that several share one.
+// Whether there are more turns than columns, so several turns share one.
 bool are_gathered(const hmcs::Tree &tree, std::size_t turns);
 
 } // namespace tool

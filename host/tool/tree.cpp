@@ -1,4 +1,4 @@
-// `tree`: a tree as its domains, indented, and in how many rounds every thread enters.
+// `tree`: the domains of a tree, indented, and the number of rounds within which every thread enters.
 #include "tool.hpp"
 #include "trees.hpp"
 
@@ -22,21 +22,21 @@ Command tree_command() {
             "the domains of a tree, indented",
             "usage: hmcs tree TREE [--ticket] [--csv | --json]\n"
             "Prints the domains of a tree, each indented below its parent: number, level (the root is at level\n"
-            "1), threshold, allowance, longest possible wait, and the threads at home in it. That wait is\n"
-            "how many entries of others a thread of the home waits for at most, whatever the schedule, as long as\n"
-            "nobody stalls: a thread that could move and gets no turn lets others by without end. The allowance is how many entries\n"
-            "the threads under a domain may make while another member of its parent waits: its threshold times\n"
-            "the largest allowance of its members, where a thread's is 1. The last line says after how many rounds every thread has entered, wherever they\n"
-            "begin: a round is a stretch of turns in which every thread has one or more. By round robin each has\n"
-            "one; turns are not a measure of time. TREE is a text, a file with one (a line feed at its end is\n"
-            "ignored), or a lock file.\n"
+            "1), threshold, allowance, longest possible wait, and the threads at home in it. That wait is the\n"
+            "largest number of entries of others that a thread of the home waits for on any schedule, as long as\n"
+            "nobody stalls: while a thread that could move gets no turn, others may enter without end. The\n"
+            "allowance is how many entries the threads under a domain may make while another member of its\n"
+            "parent waits: its threshold times the largest allowance of its members, 1 for a thread. The last\n"
+            "line says after how many rounds every thread has entered, from any starting point. In a round every\n"
+            "thread has one or more turns; with round robin each has one. Turns are not a measure of time. TREE\n"
+            "is a text, a file with one (a line feed at its end is ignored), or a lock file.\n"
             "\n"
-            "  --ticket       the root of a text is a ticket lock; otherwise it is a queue\n"
+            "  --ticket       the root of a tree given as text is a ticket lock; otherwise it is a queue\n"
             "  --csv, --json  for programs, without the last line\n"
             "\n"
-            "In a text, a domain stands in parentheses: `#` and how many threads are at home there, or domains\n"
-            "separated by one space, each with its threshold in front. Two sockets of threshold 16, each with\n"
-            "two groups of threshold 4 with four threads:\n"
+            "In a text, the parentheses of a domain contain `#` and the number of threads at home there, or\n"
+            "domains separated by one space, each with its threshold in front. Two sockets of threshold 16, each\n"
+            "with two groups of threshold 4 with four threads:\n"
             "\n"
             "  hmcs tree '(16(4(#4) 4(#4)) 16(4(#4) 4(#4)))'\n",
             with_table_options({{"--ticket", false}}),

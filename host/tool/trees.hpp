@@ -8,7 +8,7 @@
 
 namespace tool {
 
-// A domain where it stands in the tree: the root at level 1, each domain after its parent and before what follows on the parent's level.
+// A domain with its position in the tree: the root at level 1, each domain after its parent and before what follows on the parent's level.
 struct Domain {
     std::uint32_t number;
     std::uint32_t level;
@@ -20,9 +20,9 @@ std::vector<std::uint32_t> threads_at_home(const hmcs::Tree &tree, std::uint32_t
 std::uint32_t members_of(const hmcs::Tree &tree, std::uint32_t domain);
 // Numbers, with consecutive ones as a range: "0-3 8".
 std::string ranges(const std::vector<std::uint32_t> &numbers);
-// The text that reads as this tree, where there is one: a queue root, domains in the order of their opening parentheses, threads leaf by leaf.
+// The text of this tree, if there is one: a queue root, domains in the order of their opening parentheses, threads leaf by leaf.
 std::optional<std::string> text_of(const hmcs::Tree &tree);
-// A number that the library cuts at 2^64 - 1, for people.
+// A number that the library caps at 2^64 - 1, for people.
 std::string capped(std::uint64_t number);
 // The domains of an accepted tree, indented by level.
 Table tree_table(const hmcs::Tree &tree);

@@ -19,7 +19,7 @@ std::uint64_t largest_allowance(const hmcs::Tree &tree) {
     return largest;
 }
 
-// The thresholds of levels 2 and on, where all threads are at home on the last level and each level has one threshold.
+// The thresholds from level 2 on, if all threads are at home on the last level and each level has one threshold.
 std::optional<std::vector<std::uint16_t>> thresholds_by_level(const hmcs::Tree &tree) {
     std::vector<std::uint16_t> thresholds;
     std::vector<std::uint32_t> levels(tree.words().domains);
@@ -72,7 +72,7 @@ void add_time(Table &table, const std::optional<double> &time) {
 
 namespace {
 
-// One seed more: counts and attempts are added; of waits and missing threads the worst stands.
+// Adds a seed: counts and attempts are added, and of waits and missing threads the worst is kept.
 void join(Trial &trial, const Measured &measured, bool first) {
     const Missing missing = measured.missing();
     trial.counts.add(measured.counts);
@@ -144,7 +144,7 @@ void warn_of(const std::string &name, const Trial &trial) {
 
 std::string above_possible(std::uint64_t seen, std::uint64_t possible) {
     return "a wait of " + std::to_string(seen) + " was seen, above the longest possible wait of " + std::to_string(possible) +
-           ": on this schedule a thread that could move was passed over meanwhile";
+           ": on this schedule a thread that could move got no turn meanwhile";
 }
 
 std::string four_digits(double number) {
@@ -206,7 +206,7 @@ void add_trial(Table &table, const Trial &trial, const Shown &shown) {
     for (const std::uint64_t count : {trial.counts.entries, trial.counts.root, trial.counts.crossed, trial.counts.passed, trial.counts.stays}) {
         table.cell(count);
     }
-    // waits that cannot be compared are not shown as if they could
+    // incomparable waits must not look comparable
     const std::string seen = std::to_string(trial.waits.largest) + (trial.stalled() ? bypassed : "");
     table.cell(comparable ? seen : "at least " + std::to_string(missing.at_least()), Value(trial.waits.largest));
     if (shown.seeds) {

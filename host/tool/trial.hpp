@@ -1,4 +1,4 @@
-// A tree tried on a schedule: the figures that sweep, choose and compare show of it.
+// A tree tried on a schedule: the figures that sweep, choose and compare show.
 #ifndef HMCS_TRIAL_HPP
 #define HMCS_TRIAL_HPP
 
@@ -25,25 +25,25 @@ struct Trial {
     std::optional<double> longest_time; // what the longest possible wait is in time at most, where the time inside is given
     std::optional<double> proved_time;  // the same by the proved rate, in an even tree of two or three levels
 
-    // A wait above the longest possible one was seen, so somebody stalled.
+    // A wait above the longest possible one was seen, so a thread stalled.
     bool stalled() const { return waits.largest > possible_wait; }
 };
 
-// Stands after a wait above the longest possible one.
+// The mark after a wait above the longest possible one.
 extern const char *const bypassed;
 // What it means that such a wait was seen.
 std::string above_possible(std::uint64_t seen, std::uint64_t possible);
-// Says on standard error what a reader of the row must know: that it cannot be compared, or that somebody stalled.
+// Says on standard error what a reader of the row must know: that it cannot be compared, or that a thread stalled.
 void warn_of(const std::string &name, const Trial &trial);
 
-// Runs the schedule from a fresh lock of the tree; of several seeds each, and then the counts are sums and the waits the worst.
+// Runs the schedule from a fresh lock of the tree. With several seeds it runs each; the counts are sums and the waits the worst.
 Trial try_tree(const hmcs::Tree &tree, const Schedule &schedule, const std::optional<hmcs::PassingTimes> &times, const std::optional<double> &hold);
 
-// P1,P2,P3 of the option --times, if it is given; one that `rate` refuses is refused.
+// P1,P2,P3 of the option --times, if given; refused if `rate` refuses them.
 std::optional<hmcs::PassingTimes> times_of(const Words &words);
 // The option --hold, the time inside, which goes with --times.
 std::optional<double> hold_of(const Words &words, const std::optional<hmcs::PassingTimes> &times);
-// A number that is not a whole one, as the command reads it.
+// A real number, as the command reads it.
 double real_number(const std::string &name, const std::string &word);
 // The shortest digits that read back as the same number; for people, four after the point.
 std::string shortest(double number);

@@ -24,7 +24,7 @@ std::string waits(const Words &words) {
     }
     if (const Missing missing = measured.missing(); !missing.comparable()) {
         warn(words.others()[0] + ": " + missing.why_not() + "; its waits cannot be compared");
-        warn_how_to_compare(true);
+        warn_how_to_compare(true, missing.fewest_entries);
     }
     const hmcs::WaitBoundsResult bounds = hmcs::wait_bounds(input.tree);
     for (std::size_t thread = 0; thread < measured.threads.size(); ++thread) {
@@ -88,13 +88,13 @@ Command waits_command() {
             "usage: hmcs waits FILE [--csv | --json]\n"
             "       hmcs waits TREE --schedule S [--ticket] ..\n"
             "Runs the schedule of a lock file from a fresh lock and prints for each thread, and for all\n"
-            "together, how many attempts were finished and how long they waited, in other threads' entries:\n"
+            "together, how many attempts were finished and how long they waited in entries of other threads:\n"
             "the total, the largest, and the mean as an exact fraction and as a decimal. An attempt begins\n"
-            "when the thread joins the queue of its home and ends when it is inside. One that had not ended is\n"
-            "not among them: the column `under way` says how long it has waited so far. A thread that never\n"
-            "entered has no wait at all, and is marked NEVER. The longest possible wait is proved: no schedule makes\n"
-            "an attempt wait for more entries as long as nobody stalls. On schedules in which a thread that could\n"
-            "move is passed over, more entries may be seen.\n"
+            "when the thread joins the queue of its home and ends when it is inside. An attempt that had not\n"
+            "ended is not counted: the column `under way` says how long it has waited so far. A thread that never\n"
+            "entered has no wait and is marked NEVER. The longest possible wait is proved: on no schedule does an\n"
+            "attempt wait for more entries as long as nobody stalls. If a thread that could move gets no turn,\n"
+            "an attempt may wait for more.\n"
             "\n"
             "  --csv, --json  for programs, the mean as numerator, denominator and decimal\n" +
                 std::string(run_help) +

@@ -9,7 +9,7 @@ namespace tool {
 
 Table waits_table(const hmcs::Tree &tree, const Measured &measured);
 
-// A cell for an attempt under way, by the entries of others since it began; "-" where there is none.
+// A cell for an attempt under way, by the entries of others since it began; "-" if there is none.
 void add_under_way(Table &table, bool is_under_way, std::uint64_t entries);
 
 } // namespace tool

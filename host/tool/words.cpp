@@ -1,4 +1,4 @@
-// The words of a command line: options and their values, numbers, and how the command says that it cannot go on.
+// The words of a command line: options and their values, numbers, and how the command reports errors.
 #include "tool.hpp"
 
 #include <charconv>
@@ -29,7 +29,7 @@ std::string printed(const Words &words, const Table &table) {
 
 namespace {
 
-// An option begins with a dash; a dash alone is a file, and one before a digit a negative number.
+// An option begins with a dash; a single dash is a file, and a dash before a digit a negative number.
 bool is_option(const std::string &word) { return word.size() > 1 && word[0] == '-' && word[1] != '.' && (word[1] < '0' || word[1] > '9'); }
 
 } // namespace

@@ -1,4 +1,4 @@
-// The library's file call against the step table's, on files that the fuzzer makes. The first two bytes choose the output's room.
+// Compares the library's file call with the step table's, on files that the fuzzer makes. The first two bytes choose the length of the output buffer.
 #include "../../host/include/hmcs.h"
 
 #include <cstdio>

@@ -1,4 +1,4 @@
-// The library's check of a journal against the step table's: the first byte of what the fuzzer makes names a tree, the rest is the journal.
+// Compares the library's check of a journal with the step table's. The first byte of the fuzzer's input chooses a tree, and the rest is the journal.
 #include "../../host/include/hmcs.h"
 
 #include <cstdio>
@@ -24,7 +24,7 @@ hmcs_tree tree_of(std::vector<uint8_t> parents, std::vector<uint16_t> thresholds
     return tree;
 }
 
-// By the lowest two bits the root alone, two domains, three levels, or as many threads as there may be; by bit 2 the kind of root.
+// The lowest two bits choose the root alone, two domains, three levels, or the largest number of threads. Bit 2 chooses the kind of root.
 hmcs_tree named_tree(uint8_t byte) {
     const uint32_t ticket_root = byte & 4;
     switch (byte & 3) {

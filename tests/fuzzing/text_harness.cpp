@@ -1,4 +1,4 @@
-// The library's reader of texts against the reference's, on texts that the fuzzer makes.
+// Compares the library's text reader with the reference's, on texts that the fuzzer makes.
 #include "../../host/include/hmcs.h"
 
 #include <cstdio>

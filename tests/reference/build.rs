@@ -1,4 +1,4 @@
-//! Links the static library that HMCS_LIBRARY names, if it names one; HMCS_CALLS says that it has the calls on a caller's state.
+//! Links the static library that HMCS_LIBRARY names, if it is set. HMCS_CALLS says that the library has the calls on a caller's state.
 
 use std::env;
 use std::path::Path;

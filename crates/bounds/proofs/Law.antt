@@ -1,4 +1,4 @@
--- The law of the call of allowances.
+-- The law of the call for allowances.
 use mathlib.Core.Path.{_≡_, _∙_}
 use mathlib.Core.List.{List}
 use Prim.Native.Nat.{ℕ, zero, suc, _+_, _≤_, _<_, _^_}
@@ -11,7 +11,7 @@ use Rattle.model.proofs.Trees.Accepted.{accepted}
 use Rattle.bounds.specs.Answers.{capped, allowance-word, words-from, allowances-answer, allowances-left}
 use Rattle.bounds.specs.Laws.{Allowances-law}
 
--- the word at a place of a list of words
+-- the word at an index of a list of words
 pub word-at : (f : ℕ → ℕ) (k d x : ℕ) → x < k → getD (words-from f k d) x 0 ≡ f (d + x)
 unfolding words-from
 word-at f zero d x h = absurd (omega arith)

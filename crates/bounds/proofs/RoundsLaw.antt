@@ -1,4 +1,4 @@
--- The laws of the call of rounds.
+-- The laws of the call for rounds.
 use mathlib.Core.Path.{_≡_, _∙_}
 use Prim.Native.Nat.{ℕ, _+_, _*_, _<_, _^_}
 use native.Mathlib.Omega.{arith}
@@ -24,7 +24,7 @@ module _ (w : TreeWords) (ok : tree-refusal (tree-of w) .number ≡ 0) where
   unfolding rounds-answer
   turns-answered = rw (eq-eqb (tree-refusal (tree-of w) .number) 0 ok)
 
--- a number that was cut is 2 ^ 64 less 1
+-- a number below 2 ^ 64 - 1 is not capped
 uncut : (n m : ℕ) → m ≡ capped n → m + 1 < 2 ^ 64 → m ≡ n
 unfolding capped
 uncut n m e h = omega arith
@@ -39,7 +39,7 @@ rounds-law w ok =
       turns-cut = λ h. rw (turns-answered w ok) (large _ h);
     }
 
--- where the turns were not cut, neither were the rounds
+-- if the turns are not capped, neither are the rounds
 rounds-whole : (w : TreeWords) → tree-refusal (tree-of w) .number ≡ 0 → rounds-answer w .turns + 1 < 2 ^ 64 → rounds-answer w .rounds ≡ everyone-bound (tree-of w)
 unfolding tree-of
 rounds-whole w ok h =

@@ -1,4 +1,4 @@
--- The law of the call of wait bounds.
+-- The law of the call for wait bounds.
 use mathlib.Core.Path.{_≡_, refl, _∙_}
 use mathlib.Core.List.{List}
 use Prim.Native.Nat.{ℕ, zero, suc, _+_, _≤_, _<_}

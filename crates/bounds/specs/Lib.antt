@@ -1,4 +1,4 @@
--- What a reader must believe about the calls of allowances and rounds. Its proofs are in proofs/.
+-- The definitions about the calls for allowances, rounds and wait bounds that a reader must trust. The proofs are in proofs/.
 pub mod Answers
 pub mod Laws
 pub mod StarvationFreedom

@@ -1,3 +1,3 @@
--- Nobody starves: the bounds, the laws under fair schedules, and computed cases.
+-- No thread starves: the bounds, the laws for fair schedules, and computed cases.
 pub mod Bounds
 pub mod Laws

@@ -1,8 +1,8 @@
-// The words in which the call of rounds is answered. What they mean is in specs/.
+// The reply of the call for rounds. Its meaning is in specs/.
 pub mod longest_wait;
 pub mod starvation_freedom;
 
-// Number and place of a refusal; accepted, how many rounds have an entry of every thread, and how many turns they are by round robin, each cut at the largest number of 64 bits; refused, 0.
+// Number and place of a refusal; if accepted, how many rounds contain an entry of every thread, and how many turns these are in round robin, each capped at the largest 64-bit number; if refused, 0.
 #[repr(C)]
 pub struct RoundsReply {
     pub number: u32,

@@ -1,4 +1,4 @@
--- Sums and products of numbers that were cut.
+-- Sums and products of capped numbers.
 use mathlib.Core.Path.{_≡_, ap, _∙_}
 use Prim.Native.Nat.{ℕ, zero, suc, _+_, _*_}
 use native.Mathlib.Omega.{arith}
@@ -10,7 +10,7 @@ pub capped-sum : (a b : ℕ) → capped (capped a + capped b) ≡ capped (a + b)
 unfolding capped
 capped-sum a b = omega arith
 
--- of one summand that was cut
+-- with one capped summand
 pub capped-left : (a b : ℕ) → capped (capped a + b) ≡ capped (a + b)
 unfolding capped
 capped-left a b = omega arith
@@ -19,7 +19,7 @@ pub capped-front : (a b : ℕ) → capped (a + capped b) ≡ capped (a + b)
 unfolding capped
 capped-front a b = omega arith
 
--- of one factor that was cut
+-- with one capped factor
 pub capped-right : (a b : ℕ) → capped (a * capped b) ≡ capped (a * b)
 unfolding capped
 capped-right zero b = let z : 0 * capped b ≡ 0 * b = omega arith in ap capped z

@@ -1,4 +1,4 @@
--- The words of the domains from one on are their allowances, and each domain's comes from those of its children.
+-- The words of the domains from a given one on are their allowances, and each domain's word comes from those of its children.
 use mathlib.Core.Path.{_≡_, refl, sym, ap, _∙_}
 use mathlib.Core.Bool.{Bool, true, false, cond}
 use mathlib.Core.List.{List, [], _∷_}
@@ -26,7 +26,7 @@ pub capped-large : (n : ℕ) → 18446744073709551615 ≤ n → capped n ≡ 184
 unfolding capped
 capped-large n h = omega arith
 
--- a product by its quotient
+-- a product, tested by a quotient
 pub product-none : (h n : ℕ) → h ≡ 0 → 0 ≡ capped (h * n)
 unfolding capped
 product-none h n e = rw e (omega arith)
@@ -37,7 +37,7 @@ product-fits h n p l = rw (mul-comm h n) (le-div-iff-mul-le p .0 l)
 pub product-large : (h n : ℕ) → 0 < h → 18446744073709551615 / h < n → 18446744073709551615 < h * n
 product-large h n p l = rw (mul-comm h n) (div-lt-iff-lt-mul p .0 l)
 
--- a product with a number that was cut is cut as the product itself
+-- multiplying by a capped number and capping gives the capped product
 pub capped-times : (h n : ℕ) → 1 ≤ h → capped (h * capped n) ≡ capped (h * n)
 capped-times h n p =
     less-or n 18446744073709551615 (capped (h * capped n) ≡ capped (h * n)) (λ s. rw (capped-small n (omega arith)))
@@ -46,13 +46,13 @@ capped-times h n p =
     let more = le-mul-of-pos-right n p in
     rw (capped-large n l, mul-comm h 18446744073709551615, mul-comm h n) (capped-large _ top ∙ sym (capped-large _ (omega (arith, more)))))
 
--- the largest of numbers that were cut is their largest, cut
+-- the largest of capped numbers is the capped largest
 pub capped-largest : (n : ℕ) (f g : ℕ → ℕ) → ((c : ℕ) → c < n → f c ≡ capped (g c)) → largest-below n f ≡ capped (largest-below n g)
 unfolding largest-below capped
 capped-largest zero f g e = refl
 capped-largest (suc n) f g e = rw (capped-largest n f g (λ c h. e c (omega arith)), e n (omega arith)) (omega arith)
 
--- the largest of one number more, and of all
+-- the largest of one more number, and of all
 pub largest-next : (n : ℕ) (f : ℕ → ℕ) (a b r : ℕ) → a ≡ largest-below n f → b ≡ f n → r ≡ max a b → r ≡ largest-below (n + 1) f
 unfolding largest-below
 largest-next n f a b r e g m = let z : n + 1 ≡ suc n = omega arith in rw (z, m, e, g)
@@ -60,7 +60,7 @@ largest-next n f a b r e g m = let z : n + 1 ≡ suc n = omega arith in rw (z, m
 pub largest-all : (n m : ℕ) (f : ℕ → ℕ) (a : ℕ) → n ≡ m → a ≡ largest-below n f → a ≡ largest-below m f
 largest-all n m f a e g = rw (← e) g
 
--- a list by its words
+-- a list from its words
 pub listed : (f : ℕ → ℕ) (ws : List ℕ) (k d : ℕ) → length ws ≡ k → ((x : ℕ) → x < k → getD ws x 0 ≡ f (d + x)) → ws ≡ words-from f k d
 unfolding words-from
 listed f [] zero d l e = refl
@@ -72,17 +72,17 @@ listed f (w ∷ ws) (suc k) d l e =
     let back = listed f ws k (d + 1) (omega arith) (λ x h. let y : d + suc x ≡ d + 1 + x = omega arith in rw y at (e (suc x) (omega arith))) in
     ap (λ y. y ∷ ws) front ∙ ap (λ r. f d ∷ r) back
 
--- from domain d on the words are allowances
+-- the words from domain d on are allowances
 pub record Filled (t : Tree) (d : ℕ) (words : List ℕ) : Type 0 where
   pub done : (c : ℕ) → d ≤ c → c < t .domains → getD words c 0 ≡ capped (allowance t (256 + c))
   pub rest : (c : ℕ) → c < d → getD words c 0 ≡ 0
   pub behind : (c : ℕ) → t .domains ≤ c → getD words c 0 ≡ 0
 
--- no domain's yet
+-- no domain is done yet
 pub filled-none : (t : Tree) → t .domains ≤ 64 → Filled t (t .domains) (replicate 64 0)
 filled-none t few = record { done = λ c a b. absurd (omega arith); rest = λ c h. zeros 64 c; behind = λ c h. zeros 64 c }
 
--- one domain's more
+-- one more domain is done
 pub filled-next :
     (t : Tree) (d : ℕ) (ws : List ℕ) (x : ℕ) → Filled t (suc d) ws → d < length ws → d < t .domains → x ≡ capped (allowance t (256 + d)) →
     Filled t d (set ws d x)
@@ -93,7 +93,7 @@ filled-next t d ws x filled l s e =
       behind = λ c h. getD-set-other ws d c x 0 (omega arith) ∙ filled .behind c h;
     }
 
--- all domains' but the root's: the words of the buffer
+-- all domains but the root are done: the words of the buffer
 word-of :
     (t : Tree) (ws : List ℕ) → Filled t 1 ws → (x : ℕ) (a b : Bool) → eqb x 0 ≡ a → ltb x (t .domains) ≡ b →
     getD ws x 0 ≡ allowance-word t (0 + x)
@@ -108,7 +108,7 @@ pub filled-all : (t : Tree) (ws : List ℕ) → Filled t 1 ws → length ws ≡ 
 filled-all t ws filled l = listed (allowance-word t) ws 64 0 l (λ x h. word-of t ws filled x (eqb x 0) (ltb x (t .domains)) refl refl)
 
 module _ (t : Tree) (valid : Accepted t) where
-  -- the children of d come after it, so their words are there
+  -- the children of d have higher numbers, so their words are there
   pub member-word :
       (d : ℕ) (ws : List ℕ) → Filled t (suc d) ws →
       cond (is-leaf t d) 1 (largest-below (t .domains) (λ c. cond (is-child t d c) (getD ws c 0) 0)) ≡ capped (member-allowance t d)

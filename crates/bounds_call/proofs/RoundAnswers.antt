@@ -1,4 +1,4 @@
--- What the call of rounds answers, by its tree's words.
+-- What the call for rounds answers, given the words of its tree.
 use mathlib.Core.Path.{_≡_, sym, ap, _∙_}
 use mathlib.Core.Logic.{_≢_}
 use Prim.Native.Nat.{ℕ, _*_}

@@ -1,4 +1,4 @@
--- The words of the call of rounds: levels, the rounds above each domain by its parent's, and those of each thread.
+-- The words of the call for rounds: levels, the rounds above each domain from its parent's, and those of each thread.
 use mathlib.Core.Path.{_≡_, refl, sym, ap, _∙_}
 use mathlib.Core.Bool.{true, cond}
 use mathlib.Core.List.{List}
@@ -31,7 +31,7 @@ use Rattle.bounds_call.proofs.WaitWords.{parent-small, count-few, child
 pub above-all : (t : Tree) (n m : ℕ) (ws : List ℕ) → n ≡ m → Rounds-above t n ws → Rounds-above t m ws
 above-all t n m ws e so-far = rw (← e) so-far
 
--- by the definition
+-- as the definition has it
 acquire-defined :
     (t : Tree) → Accepted t → (d m : ℕ) → d < t .domains →
     acquire-rounds t d m
@@ -55,7 +55,7 @@ module _ (w : TreeWords) (ok : tree-refusal (tree-of w) .number ≡ 0) where
   unfolding tree-of
   home-below i h s e = rw (e, ← home-read w i s) (valid .home-real i s)
 
-  -- one step up the way from d
+  -- one step up the path from d
   pub level-up : (d n x p : ℕ) → 0 < x → x < w .domains → p ≡ getD (w .parents) x 0 → n + depth t x ≡ level t d → n + 1 + depth t p ≡ level t d
   unfolding tree-of
   level-up d n x p h s e g =
@@ -90,7 +90,7 @@ module _ (w : TreeWords) (ok : tree-refusal (tree-of w) .number ≡ 0) where
   unfolding tree-of
   counts-few d n counts counted s e = let few = few-domains w ok in let x = count-few w ok d (getD counts d 0) counts (omega arith) counted refl in omega arith
 
-  -- THE ROUNDS of a member: the steps of the code, each number cut
+  -- THE ROUNDS of a member: the steps of the code, each number capped
   pub acquire-word :
       (d deepest above passes here len n all o others link product acquired back released entries standing r : ℕ) (counts : List ℕ) → Counted t counts → d < w .domains →
       deepest ≡ levels t → here ≡ level t d → len ≡ tenure-length t d → n ≡ getD counts d 0 → all ≡ (n + len - 1) / len → o ≡ getD counts d 0 - 1 → others ≡ (o + len - 1) / len → link ≡ cond (ltb 1 len) 1 0 →
@@ -134,7 +134,7 @@ module _ (w : TreeWords) (ok : tree-refusal (tree-of w) .number ≡ 0) where
       let member : is-member t p (256 + d) ≡ true = rw (← parent) at (child-member w ok d (omega arith) s) in
       rw (ne-eqb d 0 n, ← parent) (acquired .acquires (256 + d) (so-far .above p low) (some .others p (256 + d) (omega arith) (omega arith) member))
 
-  -- one domain's more
+  -- one more domain is done
   pub above-next : (d n x : ℕ) (ws : List ℕ) → n ≡ d + 1 → d < w .domains → Rounds-above t d ws → x ≡ capped (rounds-above t d) → Rounds-above t n (set ws d x)
   above-next d n x ws z s so-far e =
       let room = so-far .room in

@@ -1,4 +1,4 @@
--- Sums over the members of a domain, as the call of wait bounds keeps them: from the first record up, from the last one down, and without one member.
+-- Sums over the members of a domain, as the call for wait bounds keeps them: from the first record up, from the last one down, and without one member.
 use mathlib.Core.Path.{_≡_, refl, sym, ap, _∙_}
 use mathlib.Core.Logic.{_≢_}
 use mathlib.Core.Bool.{Bool, true, false, _&&_, not, cond}
@@ -20,12 +20,12 @@ use Rattle.bounds_call.specs.Waits.{added, sum-of, weight, Owned, Counte
 use Rattle.bounds_call.proofs.Filling.{capped-small}
 use Rattle.bounds_call.proofs.Capped.{capped-sum}
 
--- ONE NUMBER MORE
+-- ONE MORE NUMBER
 pub added-room : (ws : List ℕ) (at x : ℕ) → length (added ws at x) ≡ length ws
 unfolding added
 added-room ws at x = less-or at 64 _ (λ h. rw (lt-ltb at 64 h) (length-set ws at _)) (λ h. rw (le-ltb at 64 h) refl)
 
--- the sum of a domain after a number is added to that of an owner
+-- a domain's sum after a number is added to the sum of domain o
 pub added-at :
     (ws : List ℕ) (o x d s n : ℕ) → length ws ≡ 64 → d < 64 → getD ws d 0 ≡ capped s → (eqb o d ≡ true → x ≡ capped n) →
     getD (added ws o x) d 0 ≡ capped (s + cond (eqb o d) n 0)
@@ -66,7 +66,7 @@ summed-next t f m n o x ws after z summed owned e g =
       room = added-room ws o x ∙ summed .room;
     })
 
--- the members that are counted
+-- the members, counted as a sum
 count-sum : (n : ℕ) (f : ℕ → Bool) → sum-below n (λ q. cond (f q) 1 0) ≡ length (filter-below n f)
 unfolding sum-below filter-below
 count-sum zero f = refl
@@ -97,7 +97,7 @@ counted-all t n ws z summed =
       room = summed .room;
     }
 
--- of each record passed, the sum before it
+-- for each record so far, the sum before it
 pub record Before-so-far (t : Tree) (m : ℕ) (before : List ℕ) : Type 0 where
   pub lower : (d q : ℕ) → d < 64 → q < m → is-member t d q ≡ true → getD before q 0 ≡ capped (sum-below q (weight t d))
   pub room : length before ≡ 320

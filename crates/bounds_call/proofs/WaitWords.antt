@@ -1,4 +1,4 @@
--- The words of the call of wait bounds, by its tree's words: owners of records, passes, what the domains above add, and W.
+-- The words of the call for wait bounds, given the words of its tree: owners of records, passes, what the domains above add, and W.
 use mathlib.Core.Path.{_≡_, refl, sym, ap, _∙_}
 use mathlib.Core.Logic.{_≢_}
 use mathlib.Core.Bool.{true, false, cond}
@@ -78,7 +78,7 @@ module _ (w : TreeWords) (ok : tree-refusal (tree-of w) .number ≡ 0) where
       let y : m - 256 ≡ c = omega arith in
       record { owns = λ d h. rw (le-ltb m 256 b, y, le-ltb c (w .domains) s) (sym (no-owner d h)); within = omega arith }
 
-  -- PASSES of a member by the words
+  -- PASSES of a member, from the words
   pub passes-word : (ws : List ℕ) → Allowed (effective t) ws → (x m : ℕ) → x ≡ word-of ws m → (d : ℕ) → d < 64 → is-member t d m ≡ true → x ≡ capped (passes t m)
   unfolding word-of passes effective tree-of
   passes-word ws allowed x m e d h j = e ∙ go m (member-facts t d m j)
@@ -91,7 +91,7 @@ module _ (w : TreeWords) (ok : tree-refusal (tree-of w) .number ≡ 0) where
           let z : 256 + c - 256 ≡ c = omega arith in
           rw (le-ltb (256 + c) 256 (omega arith), z) (allowed .allowed c p s)
 
-  -- one domain's passes more: its threshold, as far as it has an effect, times the largest of its members
+  -- the passes of one more domain: its threshold, as far as it has an effect, times the largest of its members
   pub passes-more :
       (k d : ℕ) (ws : List ℕ) (most h x : ℕ) → d ≡ suc k → 0 < k → d ≤ w .domains → length ws ≡ 64 → Filled (effective t) d ws →
       most

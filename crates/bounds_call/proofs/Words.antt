@@ -1,4 +1,4 @@
--- What the call of allowances keeps and leaves, by its tree's words.
+-- What the call for allowances keeps and leaves, given the words of its tree.
 use mathlib.Core.Path.{_≡_, sym, ap, _∙_}
 use mathlib.Core.Bool.{cond}
 use mathlib.Core.List.{List}
@@ -32,7 +32,7 @@ pub accepted-left :
 unfolding allowances-left allowances-answer
 accepted-left w b ws d ok e filled l = rw (eq-eqb (tree-refusal (tree-of w) .number) 0 ok) (filled-all (tree-of w) ws (rw e at filled) l)
 
--- one domain more: its threshold times the largest word of its members
+-- one more domain: its threshold times the largest word of its members
 pub filled-more :
     (w : TreeWords) → tree-refusal (tree-of w) .number ≡ 0 → (k d : ℕ) (ws : List ℕ) (m x : ℕ) → d ≡ suc k → 0 < k → d ≤ w .domains → w .domains ≤ 64 →
     length ws ≡ 64 → Filled (tree-of w) d ws →

@@ -1,4 +1,4 @@
--- What the inner functions of the calls of allowances and rounds read and leave in their arrays.
+-- What the inner functions of the calls for allowances and rounds read from and leave in their arrays.
 use mathlib.Core.Path.{_≡_}
 use mathlib.Core.Bool.{cond}
 use mathlib.Core.List.{List}
@@ -13,11 +13,11 @@ use Rattle.bounds.specs.Answers.{capped}
 pub record Allowed (t : Tree) (words : List ℕ) : Type 0 where
   pub allowed : (c : ℕ) → 0 < c → c < t .domains → getD words c 0 ≡ capped (allowance t (256 + c))
 
--- the rounds above a domain: at the root the one that enters, and elsewhere those of its own record in its parent
+-- the rounds above a domain: at the root the one that enters, elsewhere those of its own record in its parent
 unfoldable pub rounds-above : Tree → (domain : ℕ) → ℕ
 rounds-above t d = cond (eqb d 0) 1 (acquire-rounds t (t .parent d) (256 + d))
 
--- the rounds of every member of a domain, by those above the domain and the passes of its other members
+-- the rounds of every member of a domain, given those above the domain and the passes of its other members
 pub record Acquires (t : Tree) (domain above passes rounds : ℕ) : Type 0 where
   pub acquires : (m : ℕ) → above ≡ capped (rounds-above t domain) → passes ≡ capped (others-passes t domain m) → rounds ≡ capped (acquire-rounds t domain m)
 

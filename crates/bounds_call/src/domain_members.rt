@@ -34,7 +34,7 @@ fn has_child(parents: &[u8; 64], domains: u32, d: u32) -> bool
     false
 }
 
-// The word of a child, and 0 of every other domain.
+// The word of a child; 0 for any other domain.
 fn child_word<'a>(parents: &'a [u8; 64], words: &'a [u64; 64], domains: u32, d: u32, c: u32) -> u64
     requires { ⌜ domains ≤ 64 ⌝ }
     requires { ⌜ c < domains ⌝ }
@@ -69,7 +69,7 @@ fn largest_child<'a>(parents: &'a [u8; 64], words: &'a [u64; 64], domains: u32, 
     most
 }
 
-// The largest word of a domain's members: 1 of a leaf, whose members are threads.
+// The largest word of a domain's members; 1 for a leaf, whose members are threads.
 pub(crate) fn largest_member<'a>(
     parents: &'a [u8; 64],
     words: &'a [u64; 64],

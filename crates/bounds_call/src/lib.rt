@@ -19,7 +19,7 @@ use bounds::RoundsReply;
 use model::TreeWords;
 use refusals::Refusal;
 
-// A product, cut at the largest number of 64 bits.
+// A product, capped at the largest 64-bit number.
 fn capped_product(x: u64, y: u64) -> u64
     ensures { λ r. ⌜ r ≡ capped (x * y) ⌝ }
 {
@@ -32,7 +32,7 @@ fn capped_product(x: u64, y: u64) -> u64
     x * y
 }
 
-// A threshold times the largest word of its domain's members; and that the threshold is a number of 16 bits.
+// A threshold times the largest word of its domain's members; the contract states that the threshold has 16 bits.
 fn threshold_product(threshold: u16, most: u64) -> u64
     ensures { λ r. ⌜ (r ≡ capped (threshold * most)) × (threshold < 65536) ⌝ }
 {
@@ -40,7 +40,7 @@ fn threshold_product(threshold: u16, most: u64) -> u64
     capped_product(h, most)
 }
 
-// The allowances of an accepted tree, in a buffer of room for 64 domains; refused, that buffer as it came. A child's number is above its parent's, so the last domain comes first.
+// The allowances of an accepted tree, in a buffer for 64 domains; if refused, the buffer is unchanged. A child's number is above its parent's, so the last domain comes first.
 pub fn allowances(tree: TreeWords, buffer: &mut [u64; 64]) -> Refusal
     ensures { λ r. ⌜ r ≡ refusal-words (allowances-answer tree) ⌝ }
     ensures { λ r. ⌜ now (buffer .exit) ≡ allowances-left tree (now (buffer .entry)) ⌝ }
@@ -67,7 +67,7 @@ pub fn allowances(tree: TreeWords, buffer: &mut [u64; 64]) -> Refusal
     refusal
 }
 
-// A sum, cut at the largest number of 64 bits.
+// A sum, capped at the largest 64-bit number.
 fn capped_sum(x: u64, y: u64) -> u64
     ensures { λ r. ⌜ r ≡ capped (x + y) ⌝ }
 {
@@ -77,7 +77,7 @@ fn capped_sum(x: u64, y: u64) -> u64
     x + y
 }
 
-// The level of a domain, by the way up to the root.
+// The level of a domain, found by going up to the root.
 fn level_of(tree: TreeWords, d: u32) -> u64
     requires { ⌜ tree-refusal (tree-of tree) .number ≡ 0 ⌝ }
     requires { ⌜ d < tree .domains ⌝ }
@@ -120,7 +120,7 @@ fn others_of(counts: &[u64; 64], d: u32) -> u64
     n - 1
 }
 
-// How many members of a domain have the lock one after the other before the domains above are released.
+// How many members of a domain have the lock one after another before the domains above are released.
 fn tenure_length(tree: TreeWords, counts: &[u64; 64], d: u32) -> u16
     requires { ⌜ tree-refusal (tree-of tree) .number ≡ 0 ⌝ }
     requires { ⌜ d < tree .domains ⌝ }
@@ -134,7 +134,7 @@ fn tenure_length(tree: TreeWords, counts: &[u64; 64], d: u32) -> u16
     wait_bounds::effective_of(tree.thresholds[at], counts[at])
 }
 
-// The round for the links, where the lock is passed on.
+// The round for the links, if the lock is passed on.
 fn link_round(length: u16) -> u64
     ensures { λ r. ⌜ r ≡ cond (ltb 1 length) 1 0 ⌝ }
 {
@@ -144,7 +144,7 @@ fn link_round(length: u16) -> u64
     0
 }
 
-// The members of a domain.
+// The number of members of a domain.
 fn members_of(counts: &[u64; 64], d: u32) -> u64
     requires { ⌜ d < 64 ⌝ }
     ensures { λ r. ⌜ r ≡ getD (now (counts .entry)) d 0 ⌝ }
@@ -153,7 +153,7 @@ fn members_of(counts: &[u64; 64], d: u32) -> u64
     counts[at]
 }
 
-// The rounds of a member from its domain on to Inside, by those above the domain and the passes of its other members.
+// The rounds of a member from its domain to Inside, given those above the domain and the passes of its other members.
 fn acquire_of(
     tree: TreeWords,
     counts: &[u64; 64],
@@ -178,7 +178,7 @@ fn acquire_of(
     capped_sum(3, standing)
 }
 
-// The rounds above a domain: at the root the one that enters, and elsewhere those of its own record in its parent.
+// The rounds above a domain: at the root the one that enters, elsewhere those of its own record in its parent.
 fn above_of<'a>(
     tree: TreeWords,
     counts: &'a [u64; 64],
@@ -227,7 +227,7 @@ fn above_words<'a>(
     above
 }
 
-// The rounds in which one thread enters: those of its acquisition, and those of a release.
+// The rounds in which one thread enters: those of its acquisition and of a release.
 fn thread_rounds<'a>(
     tree: TreeWords,
     counts: &'a [u64; 64],
@@ -290,7 +290,7 @@ fn rounds_of(tree: TreeWords) -> u64
     everyone(tree, &counts, &others, &above, deepest)
 }
 
-// In how many rounds of any fair schedule every thread enters, and how many turns these are by round robin.
+// In how many rounds of any fair schedule every thread enters, and how many turns these are in round robin.
 pub fn rounds(tree: TreeWords) -> RoundsReply
     ensures { λ r. ⌜ r ≡ rounds-answer tree ⌝ }
 {

@@ -13,7 +13,7 @@ ghost use Rattle.bounds_call.specs.Waits.{added, sum-of, word-of, added-
 use model::TreeWords;
 use refusals::Refusal;
 
-// The domain whose member has a record, and 64 where no member has it.
+// The domain of the member that owns a record; 64 if no member does.
 fn owner_of(tree: TreeWords, m: u32) -> u32
     requires { ⌜ tree-refusal (tree-of tree) .number ≡ 0 ⌝ }
     requires { ⌜ m < 320 ⌝ }
@@ -39,7 +39,7 @@ fn owner_of(tree: TreeWords, m: u32) -> u32
     64
 }
 
-// A number more in the sum of a domain; 64 is no domain.
+// Adds a number to the sum of a domain; 64 is no domain.
 fn add_at(sums: &mut [u64; 64], at: u32, x: u64)
     ensures { λ r. ⌜ now (sums .exit) ≡ added (now (sums .entry)) at x ⌝ }
 {
@@ -74,7 +74,7 @@ pub(crate) fn count_members(tree: TreeWords) -> [u64; 64]
     counts
 }
 
-// A threshold as far as it has an effect.
+// The effective threshold.
 pub(crate) fn effective_of(threshold: u16, members: u64) -> u16
     ensures { λ r. ⌜ (r ≡ cond (ltb 1 members) threshold 1) × (threshold < 65536) ⌝ }
 {
@@ -102,7 +102,7 @@ pub(crate) fn passes_of(tree: TreeWords, counts: &[u64; 64]) -> [u64; 64]
     words
 }
 
-// The passes of a record, by the words of the domains.
+// The passes of a record, from the words of the domains.
 fn word_of(words: &[u64; 64], m: u32) -> u64
     requires { ⌜ m < 320 ⌝ }
     ensures { λ r. ⌜ r ≡ word-of (now (words .entry)) m ⌝ }
@@ -157,7 +157,7 @@ pub(crate) fn sums_of_others<'a>(
     others
 }
 
-// How many tenures of a domain so many of its members take.
+// How many tenures of a domain a number of its members take.
 pub(crate) fn tenures_of(members: u64, threshold: u16) -> u64
     requires { ⌜ members ≤ 320 ⌝ }
     requires { ⌜ 0 < threshold ⌝ }
@@ -167,7 +167,7 @@ pub(crate) fn tenures_of(members: u64, threshold: u16) -> u64
     (members + h - 1) / h
 }
 
-// What a domain adds to the wait of each of its members, by what its parent adds.
+// What a domain adds to the wait of each of its members, given what its parent adds.
 fn above_of<'a>(
     tree: TreeWords,
     counts: &'a [u64; 64],
@@ -208,7 +208,7 @@ fn above_words<'a>(tree: TreeWords, counts: &'a [u64; 64], others: &'a [u64; 320
     above
 }
 
-// W of each thread, and 0 after the last.
+// W of each thread; 0 in unused slots.
 fn wait_words<'a>(tree: TreeWords, others: &'a [u64; 320], above: &'a [u64; 64]) -> [u64; 256]
     requires { ⌜ tree-refusal (tree-of tree) .number ≡ 0 ⌝ }
     requires { ⌜ Others (tree-of tree) (now others) ⌝ }
@@ -226,7 +226,7 @@ fn wait_words<'a>(tree: TreeWords, others: &'a [u64; 320], above: &'a [u64; 64])
     waits
 }
 
-// W of every thread of an accepted tree, in a buffer of room for 256 threads; refused, that buffer as it came.
+// W of every thread of an accepted tree, in a buffer for 256 threads; if refused, the buffer is unchanged.
 pub fn wait_bounds(tree: TreeWords, buffer: &mut [u64; 256]) -> Refusal
     ensures { λ r. ⌜ r ≡ refusal-words (wait-bounds-answer tree) ⌝ }
     ensures { λ r. ⌜ now (buffer .exit) ≡ wait-bounds-left tree (now (buffer .entry)) ⌝ }

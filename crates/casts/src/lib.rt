@@ -1,4 +1,4 @@
-// Numbers written in another type: a function for each, so that every caller knows the value of the cast by a contract and need not show it in each proof.
+// Casts of numbers to other types, one function each: its contract states the value, so that callers need not prove it.
 ghost use mathlib.Core.Path.{_≡_};
 ghost use Prim.Native.Nat.{_<_, _≤_};
 
@@ -14,7 +14,7 @@ pub fn byte_word(x: u8) -> u16
     x as u16
 }
 
-// A byte as an index, which is one of a table of 256.
+// A byte as an index into a table of 256.
 pub fn byte_index(x: u8) -> usize
     ensures { λ r. ⌜ (r ≡ x) × (r < 256) ⌝ }
 {
@@ -47,7 +47,7 @@ pub fn index_number(x: usize) -> u32
     x as u32
 }
 
-// A word of 16 bits, and that it is one.
+// A 16-bit word; the contract states that it is one.
 pub fn of_16_bits(x: u16) -> u16
     ensures { λ r. ⌜ (r ≡ x) × (x < 65536) ⌝ }
 {

@@ -1,4 +1,4 @@
--- The cases hold: each is computed.
+-- The cases hold, by computation.
 use mathlib.Core.Path.{_≡_, refl, ap, _∙_}
 use mathlib.Core.Bool.{Bool, true, _&&_}
 use mathlib.Core.List.{List, [], _∷_, _++_}
@@ -28,7 +28,7 @@ use Rattle.model.proofs.Computing.{refusal-by, same-lock-formed, state-sized, s
 abbrev later : Tree → LockState → (thread room : ℕ) → List Test
 later t s i room = entry-tests t (i ∷ []) ++ (test 20 1 (bad-buffer t room) ∷ test 21 1 (bad-chain t (s .words) i) ∷ [])
 
--- what refuses a chain, where 10 is tested by walks
+-- the refusal of a chain, with 10 tested by single passes
 unfoldable walked-refusal : TreeWords → LockState → (thread room : ℕ) → Refusal
 walked-refusal w s i room =
     let t = tree-of w in
@@ -66,7 +66,7 @@ unfoldable all-hold-by-walks : List Case → Bool
 all-hold-by-walks [] = true
 all-hold-by-walks (c ∷ cs) = holds-by-walks c && all-hold-by-walks cs
 
--- the states that the cases hand in are whole
+-- the states that the cases pass in are complete
 unfoldable case-sized : Case → Bool
 case-sized (gives w s i c) = state-sized s
 case-sized (refuses w s i room n) = state-sized s

@@ -1,4 +1,4 @@
--- The chain said without fuel, and the refusals of the call.
+-- The chain without fuel, and the refusals of the call.
 use mathlib.Core.Path.{_≡_, refl, ap, _∙_}
 use mathlib.Core.Bool.{Bool, true, false, _||_, cond}
 use mathlib.Core.List.{List, [], _∷_, _++_, append-nil}
@@ -54,7 +54,7 @@ unfolding occurrences
 occurrences-snoc x j [] = omega arith
 occurrences-snoc x j (y ∷ c) = omega (arith, occurrences-snoc x j c)
 
--- the numbers that pass are below the bound
+-- the numbers that pass a test below a bound are below the bound
 filter-small : (n : ℕ) (f : ℕ → Bool) (a : ℕ) → 1 ≤ occurrences a (filter-below n f) → a < n
 unfolding filter-below occurrences
 filter-small zero f a h = absurd (omega arith)

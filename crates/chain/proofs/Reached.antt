@@ -1,4 +1,4 @@
--- The chain in the states reached from fresh: who is looked to, that the chain ends, and what its links promise.
+-- The chain in states reached from fresh: which thread a thread waits for, that the chain ends, and what its links guarantee.
 pub mod Orders
 pub mod Rows
 pub mod Actors

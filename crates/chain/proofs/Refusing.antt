@@ -22,7 +22,7 @@ unfolding first-refusal
 no-tests = refl
 
 module _ (t : Tree) (s : LockState) (i room : ℕ) where
-  -- a run of the one entry, with room for it, before 19 is tested
+  -- a run with this one entry and a trace buffer for it, without 19
   abbrev ran : Refusal
   ran = first-refusal (run-tests-before-19 t s (i ∷ []) 1)
 
@@ -56,7 +56,7 @@ module _ (t : Tree) (s : LockState) (i room : ℕ) where
   unfolding has-number tree-tests
   early-numbered = refl
 
-  -- refused as a step is
+  -- a chain is refused like a step
   pub refused-early : ran .number ≢ 0 → chain-refusal t s i room ≡ ran
   unfolding chain-refusal chain-tests tree-tests
   refused-early n = first-decides early late (λ z. n (ap (λ r. r .number) (sym early-run) ∙ z)) ∙ early-run

@@ -1,4 +1,4 @@
--- Which steps are stays, by the row.
+-- Which steps are stays, row by row.
 use mathlib.Core.Path.{_≡_, refl}
 use mathlib.Core.Bool.{Bool, false, not}
 use Prim.Native.Nat.{ℕ}
@@ -15,7 +15,7 @@ use Rattle.model.proofs.Branches.{Branch, wait-root-locked, wait-root-granted, 
 use Rattle.model.proofs.Laws.Kinds.{may-stay, goes-on}
 use Rattle.chain.specs.Chain.{stays}
 
--- a status that stays in Wait
+-- the status with which a thread stays in Wait
 abbrev pub waits-in : (domain status : ℕ) → Bool
 waits-in l v = eqb v (root-word l locked wait-word)
 

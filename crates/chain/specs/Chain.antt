@@ -1,4 +1,4 @@
--- Document 02, (x), and its sentence in (xii): the chain of threads that a thread waits for.
+-- Document 02, (x) and the sentence about chains in (xii): the chain of threads that a thread waits for.
 use mathlib.Core.Bool.{Bool, false, _&&_, _||_, cond}
 use mathlib.Core.List.{List, [], _∷_, _++_}
 use Prim.Native.Nat.{ℕ, zero, suc, _+_, _-_}
@@ -14,27 +14,27 @@ use Rattle.model.specs.Steps.{stay, is-kind, step}
 use Rattle.model.specs.Runs.{occurrences}
 use Rattle.model.specs.Acts.{acts}
 
--- the thread's next step, as the step table gives it, is a stay
+-- the thread's next step, by the step table, is a stay
 unfoldable pub stays : Tree → State → (thread : ℕ) → Bool
 stays t s i = is-kind stay (step t i s .kind)
 
--- thread j acts at the domain for a record whose next names the record r: the record ahead of r in that queue
+-- thread j acts at the domain for a record whose next is r, that is, for the record ahead of r in the queue
 unfoldable pub acts-ahead : Tree → State → (domain number thread : ℕ) → Bool
 acts-ahead t s l r j = acts t s j l && eqb (next s (own-record t j l)) (r + 1)
 
--- a place is Link with the record r, which is the third of the rows
+-- the place is Link with record r
 abbrev pub links : Place → (number : ℕ) → Bool
 links p r = eqb (words-of p .row) 3 && eqb (words-of p .peer) r
 
--- the ticket just before, from 0 to 65,535
+-- the ticket just before another; 65,535 comes before 0
 abbrev pub ticket-before : (ticket : ℕ) → ℕ
 ticket-before v = wrap (v + 65535)
 
--- thread j acts at the root, where watching and raising are acting, for a record that holds a ticket
+-- thread j acts at the root (which includes watching and raising) for a record with this ticket
 unfoldable pub acts-holding : Tree → State → (ticket thread : ℕ) → Bool
 acts-holding t s v j = acts t s j 0 && eqb (status s (own-record t j 0)) v
 
--- thread i, at a place, looks to thread j: in Wait to one that acts for the record ahead of its own, in Linger to one in Link with its record, in Watch to one that acts for a record with the ticket just before its own
+-- thread i, at a place, looks to thread j: in Wait, if j acts for the record ahead of its own; in Linger, if j is in Link with its record; in Watch, if j acts for a record with the ticket just before its own
 unfoldable pub looked-to : Tree → State → (thread : ℕ) → Place → (other : ℕ) → Bool
 looked-to t s i Idle j = false
 looked-to t s i (Prep l) j = false
@@ -52,11 +52,11 @@ looked-to t s i Watch j = acts-holding t s (ticket-before (status s (own-record 
 looked-to t s i Raise j = false
 looked-to t s i Invalid j = false
 
--- the threads that a thread looks to, in order: nobody where its next step is not a stay
+-- the threads that a thread looks to, in order of their numbers; none if its next step is not a stay
 unfoldable pub looks-to : Tree → State → (thread : ℕ) → List ℕ
 looks-to t s i = cond (stays t s i) (filter-below (t .threads) (looked-to t s i (place s i))) []
 
--- 0 for none and for several, else one more than the only one
+-- 0 unless the list has exactly one element; otherwise one more than that element
 unfoldable pub only : List ℕ → ℕ
 only [] = 0
 only (j ∷ []) = suc j
@@ -66,7 +66,7 @@ only (j ∷ k ∷ js) = 0
 unfoldable pub among : (thread : ℕ) → List ℕ → Bool
 among j xs = ltb 0 (occurrences j xs)
 
--- the chain goes on from its last thread while that looks to exactly one, not yet in it, and ends at one whose next step is not a stay; empty where it can do neither. No thread is twice in it, so as many links as there are threads are enough
+-- the chain continues from its last thread while that thread looks to exactly one thread that is not on it, and ends at a thread whose next step is not a stay; it is empty if it can do neither. No thread occurs twice, so as many links as threads are enough
 unfoldable pub chain-from : (fuel : ℕ) → Tree → State → (chain : List ℕ) → (last : ℕ) → List ℕ
 chain-from zero t s c i = []
 chain-from (suc k) t s c i =
@@ -75,6 +75,6 @@ chain-from (suc k) t s c i =
     let longer = chain-from k t s (c ++ (j ∷ [])) j in
     cond (stays t s i) (cond (eqb one 0 || among j c) [] longer) c
 
--- the chain of a thread, itself first
+-- the chain of a thread, starting with the thread itself
 unfoldable pub chain : Tree → State → (thread : ℕ) → List ℕ
 chain t s i = chain-from (t .threads) t s (i ∷ []) i

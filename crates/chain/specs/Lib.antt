@@ -1,4 +1,4 @@
--- In the order of document 02, request (x): what a reader must believe about the chain. The laws' proofs are in proofs/.
+-- The definitions about the chain that a reader must trust, in the order of document 02, (x). The proofs of the laws are in proofs/.
 pub mod Chain
 pub mod Answers
 pub mod Laws

@@ -1,5 +1,5 @@
-// The words in which a chain is answered. What they mean is in specs/.
-// Number 0 is accepted; then the chain's length. Refused, the length is 0.
+// The reply of the chain call. Its meaning is in specs/.
+// Number 0 means accepted; then comes the length of the chain, which is 0 if refused.
 #[repr(C)]
 pub struct ChainReply {
     pub number: u32,

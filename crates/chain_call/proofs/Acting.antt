@@ -1,4 +1,4 @@
--- A thread acts at the domains of its path from a number up, which its place and one status tell.
+-- A thread acts at the domains of its path from a number up; its place and one status determine the number.
 use mathlib.Core.Path.{_≡_, refl, sym, ap, _∙_}
 use mathlib.Core.Bool.{Bool, true, false, _&&_, _||_, cond, false≢true}
 use Prim.Native.Nat.{ℕ, suc, _+_, _-_, _≤_, _<_}
@@ -70,7 +70,7 @@ module _ (t : Tree) (s : State) (i : ℕ) where
     pub acts-test : (d : ℕ) → d < 256 → acts-at t s i (place s i) d ≡ leb from d
     acts-test d h = rw (words-of-place (numbers-at (s .places) i) (not-invalid t i (place s i) good)) at (acts-words (place s i) good d h)
 
-    -- a thread acts for a record whose next names r exactly where a domain of its path does
+    -- the thread acts for a record whose next is r exactly if it does so at a domain of its path
     module _ (own : Owned-nexts t (s .nexts)) where
       abbrev names-at : (r k : ℕ) → Bool
       names-at r k = leb from (ancestor t i k) && eqb (getD (s .nexts) (record-at t i k) 0) (r + 1)
@@ -101,7 +101,7 @@ module _ (t : Tree) (s : State) (i : ℕ) where
           let o = path-index t valid i real d (and-both (on-path t i d) (acts-at t s i (place s i) d) (both .0) .0) in
           any-found (suc (height t i)) (names-at r) (o .index) (omega (arith, o .within)) (sym (ahead-at (o .index) r (o .within)) ∙ ap (λ x. acts-ahead t s x r i) (o .there) ∙ e))
 
-    -- at the root
+    -- the same at a ticket root
     pub ticket-there : (v : ℕ) → ticket-key from v ≡ cond (acts t s i 0 && ltb v 65536) (v + 1) 0
     unfolding acts
     ticket-there v =

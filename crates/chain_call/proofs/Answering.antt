@@ -1,4 +1,4 @@
--- From what the refusals and the links answer to the answer of the call.
+-- The answer of the call, from the refusals and the links.
 use mathlib.Core.Path.{_≡_, refl, sym, ap, _∙_}
 use mathlib.Core.Bool.{true}
 use mathlib.Core.List.{List, [], _∷_, _++_}
@@ -50,7 +50,7 @@ module _ (w : TreeWords) (s : LockState) (i : ℕ) (b : List ℕ) where
       pub answered-20 : length b < w .threads → (y : ChainReply) → y ≡ chain-refused (refusal 20 0) → Answers y b
       answered-20 h = refuses 20 0 (refused-20 (tree-of w) s i (length b) passed (rw (threads-read w) h)) (λ y. omega arith)
 
-      -- what the links are asked
+      -- what the links need
       pub tree-good : tree-refusal (tree-of w) .number ≡ 0
       tree-good = early-facts _ _ _ _ passed .tree
 

@@ -1,11 +1,11 @@
--- A front of a list, copied to the front of a buffer one by one.
+-- The first elements of a list, copied one by one to the front of a buffer.
 use mathlib.Core.Path.{_≡_, refl, ap, _∙_}
 use mathlib.Core.List.{List, [], _∷_, _++_}
 use Prim.Native.Nat.{ℕ, zero, suc, _+_, _≤_, _<_}
 use native.Mathlib.Omega.{arith}
 use lib.ListN.{length, take, drop, getD, set}
 
--- so many are copied
+-- the first elements are copied
 abbrev pub Copied : (from buffer : List ℕ) → (k : ℕ) → (now : List ℕ) → Type 0
 Copied xs b k c = c ≡ take k xs ++ drop k b
 

@@ -11,7 +11,7 @@ use Rattle.model.specs.Scans.{filter-below}
 use Rattle.chain.specs.Chain.{only}
 use Rattle.chain_call.specs.Tables.{more, more-if, count-below, only-in}
 
--- the list has none, one below the bound, or several
+-- the list is empty, has one element below the bound, or several
 pub data Counted (n : ℕ) : List ℕ → ℕ → Type 0 where
   none : Counted n [] 0
   one : (j : ℕ) → j < n → Counted n (j ∷ []) (suc j)
@@ -53,7 +53,7 @@ unfolding count-below
 count-same zero f g h = refl
 count-same (suc n) f g h = rw (h n (omega arith), count-same n f g (λ j b. h j (omega arith))) refl
 
--- one thread more
+-- one more thread
 pub count-next : (n : ℕ) (f : ℕ → Bool) (x : ℕ) → x ≡ more-if (f n) (count-below n f) n → x ≡ count-below (n + 1) f
 unfolding count-below
 count-next n f x e = let z : n + 1 ≡ suc n = omega arith in rw z e

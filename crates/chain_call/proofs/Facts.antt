@@ -1,4 +1,4 @@
--- What a well-formed state says of each thread and of each next.
+-- What a well-formed state implies about each thread and each next.
 use mathlib.Core.Path.{_≡_}
 use mathlib.Core.Bool.{true, _&&_, _||_, not, cond}
 use mathlib.Core.Logic.{inl, inr}

@@ -45,7 +45,7 @@ fill-first t s =
       ticket-keys = λ j b. absurd (omega arith);
     }
 
--- a table with one entry more
+-- a table with one more entry
 stored : (xs : List ℕ) (n : ℕ) (f : ℕ → ℕ) (v : ℕ) → n < length xs → v ≡ f n → ((j : ℕ) → j < n → getD xs j 0 ≡ f j) → (j : ℕ) → j < suc n → getD (set xs n v) j 0 ≡ f j
 stored xs n f v b e so-far j h =
     same-or j n _
@@ -114,7 +114,7 @@ module _ (w : TreeWords) (ok : tree-refusal (tree-of w) .number ≡ 0) (s : Stat
             (omega (arith, x .tickets-room, real)) (ticket-there t s n valid real g root-status) (x .ticket-keys);
       }
 
-  -- with the numbers that the calls return
+  -- the same with the numbers that the calls return
   pub fill-turn :
       (r f top lk tk : ℕ) → r ≡ own-record t n (words .domain) → f ≡ acts-from words (status s r) → top ≡ own-record t n 0 → lk ≡ link-key words → tk ≡ ticket-key f (status s top) →
       (a l k a′ : List ℕ) → Tables t s n a l k → Noted t (s .nexts) f n (suc (height t n)) a a′ → length a′ ≡ 320 → Tables t s (n + 1) a′ (set l n lk) (set k n tk)

@@ -1,4 +1,4 @@
--- The links of a chain, followed one after another.
+-- The links of a chain, followed in order.
 use mathlib.Core.Path.{_≡_, refl, sym, ap, _∙_}
 use mathlib.Core.Bool.{Bool, true, false, cond}
 use mathlib.Core.List.{List, [], _∷_, _++_}
@@ -78,7 +78,7 @@ module _ (t : Tree) (s : State) (k : ℕ) (c : List ℕ) (i : ℕ) (small : link
     pub chain-goes-on : among j c ≡ false → chain-from (suc k) t s c i ≡ chain-from k t s (c ++ (j ∷ [])) j
     chain-goes-on e = onward ∙ rw e refl
 
--- THE LOOP: so many are found, the last is i, and the chain goes on from there
+-- THE LOOP: the threads found so far, of which i is the last; the chain continues from i
 pub record Follows (t : Tree) (s : State) (start : ℕ) (found : List ℕ) (seen : List Bool) (i n : ℕ) : Type 0 where
   pub some : 1 ≤ n
   pub within : n ≤ t .threads

@@ -1,4 +1,4 @@
--- A link that is read from the tables is the link of the definition.
+-- A link read from the tables is the link of the definition.
 use mathlib.Core.Path.{_≡_, refl, sym, ap, _∙_}
 use mathlib.Core.Bool.{Bool, true, false, _&&_, not, cond}
 use mathlib.Core.List.{List, []}
@@ -32,7 +32,7 @@ use Rattle.chain_call.specs.Tables.{count-below, Tables, link, Sound-pla
 use Rattle.chain_call.proofs.Facts.{place-good, watched}
 use Rattle.chain_call.proofs.Counting.{only-count, only-small, count-same}
 
--- the row of Watch
+-- row 12 is Watch
 watch-words : (p : Place) → words-of p .row ≡ 12 → p ≡ Watch
 watch-words Watch e = refl
 watch-words Idle e = absurd (omega arith)
@@ -73,7 +73,7 @@ module _ (t : Tree) (valid : Accepted t) (s : State) (form : well-formed t s ≡
   same-words : (j : ℕ) → j < t .threads → words-of (place s j) ≡ words j
   same-words j b = words-of-place (words j) (not-invalid t j (place s j) (place-good t valid s form j b))
 
-  -- a link by the place
+  -- a link, by the thread's place
   link-at : (p : Place) → place s i ≡ p → link t s i ≡ cond (is-kind stay (row t i p s .kind)) (only (filter-below (t .threads) (looked-to t s i p))) 400
   unfolding link looks-to
   link-at p e = rw (stays-at t s i p e) (by (is-kind stay (row t i p s .kind)) refl)
@@ -144,7 +144,7 @@ module _ (t : Tree) (valid : Accepted t) (s : State) (form : well-formed t s ≡
               rw d (watched t valid s form i h z);
         }
 
-    -- a link is 400, or at most one more than a thread
+    -- a link is 400, or 0, or a thread's number plus 1
     pub link-small : link t s i ≢ 400 → link t s i ≤ t .threads
     unfolding link looks-to only
     link-small n = by (stays t s i) refl

@@ -1,4 +1,4 @@
--- A thread's path noted in a table, domain by domain: each record is named by one of them at most.
+-- A thread's path entered in a table, domain by domain: each record is named by at most one of them.
 use mathlib.Core.Path.{_≡_, refl, sym, ap, _∙_}
 use mathlib.Core.Bool.{Bool, true, false, _&&_, _||_}
 use mathlib.Core.List.{List}
@@ -56,7 +56,7 @@ module _ (w : TreeWords) (ok : tree-refusal (tree-of w) .number ≡ 0) (ns : Lis
   real : j < t .threads
   real = rw (threads-read w) h
 
-  -- the record that a next on the path names is a member's there
+  -- the record that a next on the path names is a member of the domain there
   named : (k q : ℕ) → k ≤ height t j → getD ns (record-at t j k) 0 ≡ q + 1 → is-member t (ancestor t j k) q ≡ true
   named k q l e =
       let m = own .owned (record-at t j k) (record-small t valid j real k l) (λ z. omega arith) in
@@ -66,7 +66,7 @@ module _ (w : TreeWords) (ok : tree-refusal (tree-of w) .number ≡ 0) (ns : Lis
   pub named-small : (k q : ℕ) → k ≤ height t j → getD ns (record-at t j k) 0 ≡ q + 1 → q < 320
   named-small k q l e = member-small t valid (ancestor t j k) q (named k q l e)
 
-  -- not by a domain before
+  -- no earlier domain names it
   named-once : (k q : ℕ) → k ≤ height t j → getD ns (record-at t j k) 0 ≡ q + 1 → names-below k t ns from j q ≡ false
   named-once k q l e =
       any-false k _ (λ m b f.
@@ -79,7 +79,7 @@ module _ (w : TreeWords) (ok : tree-refusal (tree-of w) .number ≡ 0) (ns : Lis
   unfolding any-below
   note-first xs = record { count = λ r b. refl }
 
-  -- one domain more
+  -- one more domain
   module _ (k : ℕ) (l : k ≤ height t j) (acting : from ≤ ancestor t j k) (before mid : List ℕ) (room : length mid ≡ 320) (so-far : Noted t ns from j k before mid) where
     abbrev n : ℕ
     n = getD ns (record-at t j k) 0
@@ -127,7 +127,7 @@ module _ (w : TreeWords) (ok : tree-refusal (tree-of w) .number ≡ 0) (ns : Lis
   pub note-root : (k : ℕ) → k ≤ height t j → ancestor t j k ≡ 0 → (xs ys : List ℕ) → Noted t ns from j (suc k) xs ys → Noted t ns from j (suc (height t j)) xs ys
   note-root k l e xs ys x = let z = ancestor-zero t valid j real k l e in rw z at x
 
--- a walk that notes: at the domain c with the record r, the domains before it noted
+-- the loop that notes a path: it is at domain c with record r, and the domains before c are noted
 pub record Noting (t : Tree) (ns : List ℕ) (from j : ℕ) (before after : List ℕ) (r c : ℕ) : Type 0 where
   pub at : At t j r c
   pub so-far : Noted t ns from j (at .index) before after

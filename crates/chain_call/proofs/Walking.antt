@@ -1,4 +1,4 @@
--- A walk up a thread's path: at which domain it is, with which record.
+-- Going up a thread's path: at which domain it is, with which record.
 use mathlib.Core.Path.{_≡_, sym, ap, _∙_}
 use Prim.Native.Nat.{ℕ, suc, _+_, _≤_, _<_}
 use native.Mathlib.Omega.{arith}
@@ -12,7 +12,7 @@ use Rattle.model.proofs.Trees.Paths.{ancestor-home, ancestor-real, ancestor-par
 use Rattle.model.proofs.Trees.Records.{record-own, record-suc, record-small}
 use Rattle.model.proofs.Trees.Reading.{home-read, parent-read, domains-read, threads-read}
 
--- the walk is at the domain c, with the record r there
+-- the loop is at domain c, with record r there
 pub record At (t : Tree) (i r c : ℕ) : Type 0 where
   pub index : ℕ
   pub within : index ≤ height t i

@@ -1,4 +1,4 @@
--- What the tables of a state hold, from which the links of a chain are read. proofs/ shows that the links are those of the definition.
+-- What the tables of a state contain, from which the links of a chain are read. proofs/ shows that the links agree with the definition.
 use mathlib.Core.Path.{_≡_}
 use mathlib.Core.Bool.{Bool, true, _&&_, cond}
 use mathlib.Core.List.{List}
@@ -16,26 +16,28 @@ use Rattle.model.proofs.Trees.Index.{ancestor, record-at}
 use Rattle.chain.specs.Chain.{stays, acts-ahead, ticket-before, looks-to, only}
 use Rattle.chain.proofs.Stays.{waits-in}
 
--- a tree by its numbers and arrays
+-- a tree with these numbers and arrays
 abbrev pub tree-at : (domains threads : ℕ) → (parents thresholds homes : List ℕ) → (kind : ℕ) → Tree
 tree-at n m ps ts hs k = tree-of (record { domains = n; threads = m; parents = ps; thresholds = ts; homes = hs; «ticket_root» = k })
 
--- A COUNT OF THREADS: 0 for none, one more than the only one, 300 for several. One thread more
+-- A COUNT OF THREADS: 0 for none, one more than the thread for exactly one, 300 for several. The count with one more thread
 abbrev pub more : (count thread : ℕ) → ℕ
 more x j = cond (eqb x 0) (j + 1) 300
 
+-- the count with one more thread if it passes
 abbrev pub more-if : (hit : Bool) → (count thread : ℕ) → ℕ
 more-if b x j = cond b (more x j) x
 
+-- the count of the threads below n that pass
 unfoldable pub count-below : (n : ℕ) → (ℕ → Bool) → ℕ
 count-below zero f = 0
 count-below (suc n) f = more-if (f n) (count-below n f) n
 
--- 0 for none and for several, else one more than the only one
+-- one more than the thread for exactly one; 0 for none and for several
 abbrev pub only-in : (count : ℕ) → ℕ
 only-in x = cond (eqb x 300) 0 x
 
--- ACTING, by one number. A thread that has the lock acts everywhere on its path: in Wait with a status that sends it Inside, in a Grant that passes the lock on, in Check
+-- ACTING, as one number. A thread that has the lock acts everywhere on its path: in Wait with a status that sends it Inside, in a Grant that passes the lock on, in Check
 abbrev pub acts-everywhere : PlaceWords → (status : ℕ) → Bool
 acts-everywhere q v = cond (eqb (q .row) 4) (sends-inside (q .domain) v) (cond (eqb (q .row) 10) (ltb (q .word) acquire-parent) (eqb (q .row) 6))
 
@@ -43,7 +45,7 @@ acts-everywhere q v = cond (eqb (q .row) 4) (sends-inside (q .domain) v) (cond (
 abbrev pub joins : (row : ℕ) → Bool
 joins r = cond (eqb r 1) true (cond (eqb r 2) true (eqb r 11))
 
--- a thread acts at the domains of its path from there down; 256 is below none. Inside, Watch and Raise have domain 0
+-- the domain from which a thread acts, at all domains of its path from there down to its home; 256 if it acts at none. Inside, Watch and Raise have domain 0
 abbrev pub acts-from : PlaceWords → (status : ℕ) → ℕ
 acts-from q v =
     cond (eqb (q .row) 0) 256
@@ -51,31 +53,31 @@ acts-from q v =
     (cond (joins (q .row)) (q .domain + 1)
     (q .domain)))
 
--- a next names a member of the domain whose member owns its record
+-- a next names a member of the same domain as its owner
 pub record Owned-nexts (t : Tree) (nexts : List ℕ) : Type 0 where
   pub owned : (r : ℕ) → r < 320 → getD nexts r 0 ≢ 0 → is-member t (owner-domain t r) (getD nexts r 0 - 1) ≡ true
 
--- a table with one thread more at the record that a next names
+-- a table with one more thread at the record that a next names
 abbrev pub noted : (table : List ℕ) → (next thread : ℕ) → List ℕ
 noted xs n j = cond (eqb n 0) xs (set xs (n - 1) (more (getD xs (n - 1) 0) j))
 
--- among the first n domains of a thread's path, it acts at one for a record whose next names r
+-- at one of the first n domains of its path, a thread acts for a record whose next is r
 abbrev pub names-below : (n : ℕ) → Tree → (nexts : List ℕ) → (from thread number : ℕ) → Bool
 names-below n t ns from j r = any-below n (λ k. leb from (ancestor t j k) && eqb (getD ns (record-at t j k) 0) (r + 1))
 
--- a table after the thread's path is noted in it
+-- the table after a thread's path is entered in it
 pub record Noted (t : Tree) (nexts : List ℕ) (from thread n : ℕ) (before after : List ℕ) : Type 0 where
   pub count : (r : ℕ) → r < 320 → getD after r 0 ≡ more-if (names-below n t nexts from thread r) (getD before r 0) thread
 
--- in Link, one more than the record; else 0
+-- one more than the record in Link; otherwise 0
 abbrev pub link-key : PlaceWords → ℕ
 link-key q = cond (eqb (q .row) 3) (q .peer + 1) 0
 
--- acting at the root with a ticket, one more than it; else 0
+-- one more than the ticket if the thread acts at the root with one; otherwise 0
 abbrev pub ticket-key : (from status : ℕ) → ℕ
 ticket-key from v = cond (eqb from 0 && ltb v 65536) (v + 1) 0
 
--- the tables of a state, for as many threads
+-- the tables of a state, for the first n threads
 pub record Tables (t : Tree) (s : State) (n : ℕ) (ahead linking tickets : List ℕ) : Type 0 where
   pub ahead-room : length ahead ≡ 320
   pub linking-room : length linking ≡ 256
@@ -84,15 +86,15 @@ pub record Tables (t : Tree) (s : State) (n : ℕ) (ahead linking tickets : List
   pub linking-keys : (j : ℕ) → j < n → getD linking j 0 ≡ link-key (numbers-at (s .places) j)
   pub ticket-keys : (j : ℕ) → j < n → getD tickets j 0 ≡ cond (acts t s j 0 && ltb (status s (own-record t j 0)) 65536) (status s (own-record t j 0) + 1) 0
 
--- A LINK: 400 where the next step is not a stay, else one more than the only thread looked to, or 0
+-- A LINK: 400 if the next step is not a stay, else one more than the only thread looked to, or 0
 unfoldable pub link : Tree → State → (thread : ℕ) → ℕ
 link t s i = cond (stays t s i) (only (looks-to t s i)) 400
 
--- the link of a thread in Watch: 400 where its ticket is the grant
+-- the link of a thread in Watch: 400 if its ticket is the grant
 abbrev pub watch-link : (status grant : ℕ) → (tickets : List ℕ) → (threads : ℕ) → ℕ
 watch-link v g vs m = cond (eqb v g) 400 (only-in (count-below m (λ j. eqb (getD vs j 0) (ticket-before v + 1))))
 
--- a link by the words of a place, the status and the next of the record r there, the grant, the count of threads ahead of r, and the tables
+-- a link, given the words of a place, the status and the next of the record there, the grant, the count of threads ahead, and the tables
 abbrev pub link-in : PlaceWords → (number status next grant count : ℕ) → (linking tickets : List ℕ) → (threads : ℕ) → ℕ
 link-in q r v n g x ks vs m =
     cond (eqb (q .row) 4) (cond (waits-in (q .domain) v) (only-in x) 400)
@@ -100,18 +102,18 @@ link-in q r v n g x ks vs m =
     (cond (eqb (q .row) 12) (watch-link v g vs m)
     400))
 
--- what a link asks of a thread's place: a domain on its path, and in Watch a ticket
+-- what a link requires of a thread's place: a domain on its path, and in Watch a ticket
 pub record Sound-place (t : Tree) (statuses : List ℕ) (i : ℕ) (q : PlaceWords) : Type 0 where
   pub there : on-path t i (q .domain) ≡ true
   pub ticket : q .row ≡ 12 → getD statuses (own-record t i (q .domain)) 0 ≤ 65535
 
--- a link by a thread's place and the arrays
+-- a link, given a thread's place and the arrays
 abbrev pub link-by : Tree → (nexts statuses ahead linking tickets : List ℕ) → (grant : ℕ) → PlaceWords → (thread : ℕ) → ℕ
 link-by t ns vs xs ks ts g q i =
     let r = own-record t i (q .domain) in
     link-in q r (getD vs r 0) (getD ns r 0) g (getD xs r 0) ks ts (t .threads)
 
--- what following the links answers: the chain's length, 0 where it breaks off, and the chain at the front of an array
+-- the result of following the links: the length of the chain, 0 if it breaks off, and the chain at the front of an array
 pub record Followed (threads : ℕ) (chain found : List ℕ) (answer : ℕ) : Type 0 where
   pub length-is : answer ≡ length chain
   pub front : take answer found ≡ chain

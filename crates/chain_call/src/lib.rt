@@ -1,4 +1,4 @@
-// Why a thread waits: the chain of threads that it waits for, itself first.
+// Why a thread waits: the chain of threads that it waits for, starting with itself.
 ghost use mathlib.Core.Path.{_≡_};
 ghost use mathlib.Core.List.{_++_};
 ghost use Prim.Native.Nat.{_≤_};
@@ -14,7 +14,7 @@ use chain::ChainReply;
 use model::LockState;
 use model::TreeWords;
 
-// The first n of an array at the front of a buffer.
+// Copies the first n elements of an array to the front of a buffer.
 fn copy_front(buffer: &mut [u16], found: &[u16; 256], n: u32)
     requires { ⌜ (n ≤ 256) × (n ≤ length (now buffer)) ⌝ }
     requires { ⌜ length (now found) ≡ 256 ⌝ }
@@ -39,7 +39,7 @@ fn refused(number: u32, place: u32) -> ChainReply
     }
 }
 
-// The chain of a thread at the front of a buffer, nothing behind; refused, the buffer as it came.
+// The chain of a thread at the front of a buffer, whose rest is unchanged; if refused, the whole buffer is unchanged.
 pub fn chain(tree: TreeWords, state: LockState, thread: u16, buffer: &mut [u16]) -> ChainReply
     ensures { λ r. ⌜ r ≡ chain-answer tree state thread (now (buffer .entry)) ⌝ }
     ensures { λ r. ⌜ now (buffer .exit) ≡ buffer-answer tree state thread (now (buffer .entry)) ⌝ }

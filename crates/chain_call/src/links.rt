@@ -1,4 +1,4 @@
-// The links of a chain, one after another, read from the tables of a state.
+// The links of a chain in order, read from the tables of a state.
 ghost use mathlib.Core.Path.{_≡_};
 ghost use mathlib.Core.Bool.{true};
 ghost use Prim.Native.Nat.{_<_, _≤_};
@@ -26,7 +26,7 @@ fn more_if_at(hit: bool, count: u16, j: u16) -> u16
     count
 }
 
-// The only thread of a count, one more than its number; 0 for none and for several.
+// One more than the only thread of a count; 0 for none and for several.
 fn only_at(count: u16) -> u16
     ensures { λ r. ⌜ r ≡ only-in count ⌝ }
 {
@@ -52,7 +52,7 @@ fn only_with(keys: &[u32; 256], threads: u32, key: u32) -> u16
     only_at(count)
 }
 
-// A status that stays in Wait.
+// Whether a thread in Wait stays with this status.
 fn waits_at(l: u8, v: u64) -> bool
     ensures { λ r. ⌜ r ≡ waits-in l v ⌝ }
 {
@@ -74,7 +74,7 @@ fn watch_link_at(v: u64, grant: u16, tickets: &[u32; 256], threads: u32) -> u16
     only_with(tickets, threads, before as u32 + 1)
 }
 
-// A thread's link by the words of its place, with the status, the next and the count at its record there: 400 where its next step is not a stay.
+// A thread's link, given the words of its place, and the status, the next and the count at its record there: 400 if its next step is not a stay.
 fn link_at<'a>(
     q: PlaceWords,
     r: u16,
@@ -110,7 +110,7 @@ fn link_at<'a>(
     400
 }
 
-// A thread's link by its place and the arrays of the tree, the state and the tables.
+// A thread's link, given its place and the arrays of the tree, the state and the tables.
 fn link_of<'a>(
     parents: &'a [u8; 64],
     thresholds: &'a [u16; 64],
@@ -151,7 +151,7 @@ fn link_of<'a>(
     link_at(q, r, v, next, grant, count, linking, tickets, threads)
 }
 
-// The chain of a thread at the front of an array: its length, or 0 where it breaks off.
+// The chain of a thread at the front of an array: its length, or 0 if it breaks off.
 fn follow_links<'a>(
     tree: TreeWords,
     state: State,
@@ -223,7 +223,7 @@ fn follow_links<'a>(
     0
 }
 
-// The same, with the tables of the state filled first.
+// The same, after filling the tables of the state.
 pub(crate) fn follow(tree: TreeWords, state: State, thread: u16, found: &mut [u16; 256]) -> u32
     requires { ⌜ tree-refusal (tree-of tree) .number ≡ 0 ⌝ }
     requires { ⌜ well-formed (tree-of tree) state ≡ true ⌝ }

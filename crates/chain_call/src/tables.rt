@@ -1,4 +1,4 @@
-// Who is looked to: tables that are filled once for a state, so that no link of a chain searches the paths of the threads.
+// Whom the threads look to: tables that are filled once per state, so that no link of a chain searches the paths of the threads.
 ghost use mathlib.Core.Path.{_≡_};
 ghost use mathlib.Core.Bool.{true};
 ghost use Prim.Native.Nat.{suc, _<_, _≤_};
@@ -14,7 +14,7 @@ use model::State;
 use model::TreeWords;
 use refusals::of_runs::places;
 
-// A count of threads with one more: 0 is none, one more than its number the only one, 300 several.
+// A count of threads with one more: 0 is none, one more than the thread's number is exactly one, 300 is several.
 pub(crate) fn more_at(count: u16, j: u16) -> u16
     requires { ⌜ j < 256 ⌝ }
     ensures { λ r. ⌜ r ≡ more count j ⌝ }
@@ -25,7 +25,7 @@ pub(crate) fn more_at(count: u16, j: u16) -> u16
     300
 }
 
-// The record with which a thread works at a domain.
+// The record that a thread uses at a domain.
 pub(crate) fn own_record_at<'a>(
     parents: &'a [u8; 64],
     thresholds: &'a [u16; 64],
@@ -45,7 +45,7 @@ pub(crate) fn own_record_at<'a>(
     refusals::paths::record_at(parents, domains, i, home, l)
 }
 
-// A status that sends a thread in Wait Inside.
+// Whether a status sends a thread in Wait Inside.
 fn sends_inside_at(l: u8, v: u64) -> bool
     ensures { λ r. ⌜ r ≡ sends-inside l v ⌝ }
 {
@@ -84,7 +84,7 @@ fn joins_at(row: u8) -> bool
     row == 11
 }
 
-// From which domain of its path down a thread acts, by its place and the status of its record there.
+// The domain from which a thread acts down its path, given its place and the status of its record there.
 fn acts_from_at(q: PlaceWords, v: u64) -> u16
     ensures { λ r. ⌜ r ≡ acts-from q v ⌝ }
 {
@@ -102,7 +102,7 @@ fn acts_from_at(q: PlaceWords, v: u64) -> u16
     l
 }
 
-// The record in Link, one more than its number; else 0.
+// One more than the record in Link; otherwise 0.
 fn link_key_at(q: PlaceWords) -> u32
     ensures { λ r. ⌜ r ≡ link-key q ⌝ }
 {
@@ -112,7 +112,7 @@ fn link_key_at(q: PlaceWords) -> u32
     0
 }
 
-// The ticket of a thread that acts at the root, one more than it; else 0.
+// One more than the ticket of a thread that acts at the root; otherwise 0.
 fn ticket_key_at(from: u16, v: u64) -> u32
     ensures { λ r. ⌜ r ≡ ticket-key from v ⌝ }
 {
@@ -125,7 +125,7 @@ fn ticket_key_at(from: u16, v: u64) -> u32
     0
 }
 
-// One thread more at the record that a next names.
+// One more thread at the record that a next names.
 fn note_next(ahead: &mut [u16; 320], next: u16, j: u16)
     requires { ⌜ (next ≤ 320) × (j < 256) ⌝ }
     ensures { λ r. ⌜ now (ahead .exit) ≡ noted (now (ahead .entry)) next j ⌝ }
@@ -138,7 +138,7 @@ fn note_next(ahead: &mut [u16; 320], next: u16, j: u16)
     ahead[at] = more_at(count, j);
 }
 
-// A thread is noted at each record that is named by the next of a record for which it acts.
+// Enters a thread at each record named by the next of a record for which it acts.
 fn note_path<'a>(
     ahead: &mut [u16; 320],
     parents: &'a [u8; 64],

@@ -1,4 +1,4 @@
--- The third demand: what holds along every schedule from fresh, and the one claim of a list of calls.
+-- The third demand: what holds along every schedule from fresh, and the claim for a list of calls.
 pub mod Reached
 pub mod Alone
 pub mod InOrder

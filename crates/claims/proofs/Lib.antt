@@ -1,4 +1,4 @@
--- How the third demand is shown, and what holds in every state reached from fresh: the queues, the words that stand for them, and the claims.
+-- The proof of the third demand, and of what holds in every state reached from fresh: the queues, the words that represent them, and the claims.
 pub mod Queues
 pub mod Words
 pub mod Sums

@@ -1,4 +1,4 @@
--- The cases of "someone can move" hold, and it is false of states that a caller may hand in.
+-- The cases of "someone can move" hold, and the law is false for states that a caller may pass in.
 use mathlib.Core.Path.{_≡_, refl, sym}
 use mathlib.Core.Bool.{Bool, true, false, _&&_, not, cond, true≢false}
 use mathlib.Core.List.{List, [], _∷_, _++_, nil≢cons}
@@ -32,7 +32,7 @@ unfolding any-below filter-below read-word tree-of is-ticket meets on-path child
     until-lingering until-woken move-cases move-holds all-move same-numbers
 move-cases-hold = refl
 
--- NOBODY MOVES: no thread is among those that move
+-- NOBODY MOVES: the list of threads that can move is empty
 append-none : (xs ys : List ℕ) → xs ++ ys ≡ [] → (xs ≡ []) × (ys ≡ [])
 append-none [] ys e = (refl, e)
 append-none (x ∷ xs) ys e = absurd (nil≢cons (sym e))

@@ -1,4 +1,4 @@
--- The abstract layer of the third demand: a tree of queues, its moves, its invariant, and the three claims of every run of moves.
+-- The abstract layer of the third demand: a tree of queues, its moves, its invariant, and the three claims about every run of moves.
 pub mod Paths
 pub mod Moves
 pub mod Changes

@@ -1,4 +1,4 @@
--- The claim holds of a list with refused calls.
+-- The claim holds for a list with refused calls.
 use mathlib.Core.Path.{_≡_, refl}
 use Rattle.model.specs.Trees.{tree-of}
 use Rattle.model.specs.States.{fresh-words, fresh-state}

@@ -38,7 +38,7 @@ unfolding sum-below
 sum-adds zero f g = refl
 sum-adds (suc n) f g = let r = sum-adds n f g in omega arith
 
--- one value alone
+-- all values but one are 0
 pub sum-single : (n : ℕ) (f : ℕ → ℕ) (k : ℕ) → k < n → ((a : ℕ) → a < n → a ≢ k → f a ≡ 0) → sum-below n f ≡ f k
 unfolding sum-below
 sum-single zero f k h z = absurd (omega arith)
@@ -53,7 +53,7 @@ sum-single (suc n) f k h z =
 pub sum-one : (n : ℕ) (f : ℕ → ℕ) (x : ℕ) → x < n → sum-below n (λ a. is a x * f a) ≡ f x
 sum-one n f x h = sum-single n (λ a. is a x * f a) x h (λ a b q. rw (is-other a x q) (omega arith)) ∙ rw (is-same x x refl) (omega arith)
 
--- in either order
+-- sums in either order
 pub sum-swaps : (n m : ℕ) (f : ℕ → ℕ → ℕ) → sum-below n (λ a. sum-below m (λ b. f a b)) ≡ sum-below m (λ b. sum-below n (λ a. f a b))
 unfolding sum-below
 sum-swaps zero m f = sym (sum-zero m (λ b. 0) (λ b h. refl))
@@ -62,13 +62,13 @@ sum-swaps (suc n) m f =
     let x = sum-adds m (λ b. sum-below n (λ a. f a b)) (λ b. f n b) in
     omega arith
 
--- one stretch after the other
+-- the sum over two consecutive ranges
 pub sum-stretches : (n m : ℕ) (f : ℕ → ℕ) → sum-below (n + m) f ≡ sum-below n f + sum-below m (λ a. f (n + a))
 unfolding sum-below
 sum-stretches n zero f = let z : n + 0 ≡ n = omega arith in rw z (omega arith)
 sum-stretches n (suc m) f = let z : n + suc m ≡ suc (n + m) = omega arith in rw z (let r = sum-stretches n m f in omega arith)
 
--- where a test holds, one value
+-- the same value for every number that passes a test
 pub sum-of-value : (n : ℕ) (f : ℕ → Bool) (v : ℕ) → sum-below n (λ a. cond (f a) v 0) ≡ length (filter-below n f) * v
 unfolding sum-below filter-below
 sum-of-value zero f v = omega arith
@@ -79,7 +79,7 @@ sum-of-value (suc n) f v = by (f n) refl (sum-of-value n f v)
     by true e r = rw e (let l = length-append (filter-below n f) (n ∷ []) in rw l (omega arith))
     by false e r = rw e (let l = length-append (filter-below n f) [] in rw l (omega arith))
 
--- but for one number
+-- without one number
 others-none : (n : ℕ) (f : ℕ → Bool) (m v : ℕ) → n ≤ m → sum-below n (λ a. cond (f a && not (eqb a m)) v 0) ≡ sum-below n (λ a. cond (f a) v 0)
 others-none n f m v h =
     sum-same n _ _ (λ a b. let z = ne-eqb a m (λ e. omega arith) in rw (z, and-true (f a)) refl)

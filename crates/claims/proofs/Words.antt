@@ -1,4 +1,4 @@
--- How a domain's words stand for its queue, and that each row of the step table is a move of the queues.
+-- How the words of a domain represent its queue, and that each row of the step table is a move of the queues.
 pub mod Links
 pub mod View
 pub mod Represents

@@ -1,4 +1,4 @@
--- Computed cases and witnesses: they pin the definitions, and nobody has to believe them.
+-- Computed cases and witnesses. They check the definitions; a reader does not have to trust them.
 pub mod Moving
 pub mod Tenures
 pub mod Witnesses

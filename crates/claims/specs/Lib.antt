@@ -1,4 +1,4 @@
--- The third demand; what holds in every state reached from fresh; computed examples of both. The definitions that they speak of are in `model`.
+-- The third demand; what holds in every state reached from fresh; computed examples of both. Their definitions are in `model`.
 pub mod Claim
 pub mod Reached
 pub mod RefusedCalls

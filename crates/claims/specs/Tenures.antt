@@ -1,2 +1,2 @@
--- What holds of entries, tenures and the longest tenure of each domain.
+-- What holds for the entries, tenures and longest tenure of each domain.
 pub mod Laws

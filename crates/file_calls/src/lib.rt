@@ -1,4 +1,4 @@
-// The calls on lock files: run and listed, written; and what prints a listing.
+// The calls that run and write lock files, and the printing of a listing.
 pub mod printing;
 pub mod running;
 pub mod writing;

@@ -1,4 +1,4 @@
-// Decimal numerals, the listing of a run, and the line of a refusal.
+// Decimal numerals, the listing of a run, and the refusal line.
 ghost use mathlib.Core.Path.{_≡_};
 ghost use mathlib.Core.List.{[], _∷_};
 ghost use Prim.Native.Nat.{_+_, _*_, _<_, _≤_};
@@ -47,7 +47,7 @@ fn put_numeral(output: &mut [u8], at: usize, value: u32) -> usize
     at + count
 }
 
-// Writes a numeral and the byte after it, and returns the position behind both.
+// Writes a numeral and the byte after it, and returns the position after both.
 fn put_number(output: &mut [u8], at: usize, value: u32, behind: u8) -> usize
     requires { ⌜ at + length (number-then value behind) ≤ length (now output) ⌝ }
     ensures { λ r. ⌜ r ≡ at + length (number-then value behind) ⌝ }
@@ -74,7 +74,7 @@ fn put_ok(output: &mut [u8])
     output[1] = 107;
 }
 
-// Writes numbers from a position on, each after a space, and a line feed; returns the position after it.
+// Writes numbers at a position, each after a space, and a line feed; returns the position after it.
 fn put_spaced(output: &mut [u8], start: usize, numbers: &[u32]) -> usize
     requires { ⌜ start + length (spaced (now numbers)) ≤ length (now output) ⌝ }
     ensures { λ r. ⌜ r ≡ start + length (spaced (now (numbers .entry))) ⌝ }
@@ -138,7 +138,7 @@ fn first_line_length(counts: Counts) -> usize
     2 + spaced_length(&numbers)
 }
 
-// Writes a line for each trace element from a position on, and returns the position after the last.
+// Writes one line per trace element at a position, and returns the position after the last.
 fn put_trace(output: &mut [u8], start: usize, trace: &[u16]) -> usize
     requires { ⌜ start + length (trace-lines (now trace)) ≤ length (now output) ⌝ }
     ensures { λ r. ⌜ r ≡ start + length (trace-lines (now (trace .entry))) ⌝ }
@@ -155,7 +155,7 @@ fn put_trace(output: &mut [u8], start: usize, trace: &[u16]) -> usize
     at
 }
 
-// Whether there is room for the lines of a trace. What is left of the room falls, so that no sum is made that could wrap.
+// Whether the lines of a trace fit. The lengths are subtracted from the space left, so that no sum can wrap.
 fn trace_fits(trace: &[u16], room: usize) -> bool
     ensures { λ r. ⌜ r ≡ leb (length (trace-lines (now (trace .entry)))) room ⌝ }
 {
@@ -172,7 +172,7 @@ fn trace_fits(trace: &[u16], room: usize) -> bool
     true
 }
 
-// Writes the listing at the front and returns its length. It is measured first, so that a shorter output buffer stays as it came; then 0 is returned.
+// Writes the listing at the front and returns its length. It is measured first, so that an output buffer that is too short is unchanged; then 0 is returned.
 pub fn write_listing(counts: Counts, trace: &[u16], output: &mut [u8]) -> usize
     ensures { λ r. ⌜ r ≡ printed-length (listing counts (now (trace .entry))) (length (now (output .entry))) ⌝ }
     ensures { λ r. ⌜ r ≤ 91 + 11 * length (now (trace .entry)) ⌝ }
@@ -202,7 +202,7 @@ fn put_refused(output: &mut [u8])
     output[6] = 100;
 }
 
-// Writes the line of a refusal at the front and returns its length; a shorter output buffer stays as it came, and 0 is returned.
+// Writes the refusal line at the front and returns its length; an output buffer that is too short is unchanged, and 0 is returned.
 pub fn write_refusal(number: u32, place: u32, output: &mut [u8]) -> usize
     ensures { λ r. ⌜ r ≡ printed-length (refusal-line number place) (length (now (output .entry))) ⌝ }
     ensures { λ r. ⌜ now (output .exit) ≡ printed (refusal-line number place) (now (output .entry)) ⌝ }

@@ -1,4 +1,4 @@
-// The lock file of a tree and a schedule, written: as short as one can be.
+// Writes the shortest lock file of a tree and a schedule.
 mod writing;
 
 ghost use mathlib.Core.Path.{_≡_};
@@ -6,7 +6,7 @@ ghost use Rattle.lock_file.specs.FileWriter.Answers.{write-answer, file-buffer-
 use lock_file::file_writer::WriteReply;
 use model::TreeWords;
 
-// Writes the lock file at the front of a buffer. Its length is known before the first byte is written, so that a shorter buffer stays as it came.
+// Writes the lock file at the front of a buffer. Its length is known before the first byte is written, so that a buffer that is too short is unchanged.
 pub fn write_file(tree: TreeWords, schedule: &[u16], file: &mut [u8]) -> WriteReply
     ensures { λ r. ⌜ r ≡ write-answer tree (now (schedule .entry)) (now (file .entry)) ⌝ }
     ensures { λ r. ⌜ now (file .exit) ≡ file-buffer-answer tree (now (schedule .entry)) (now (file .entry)) ⌝ }

@@ -1,4 +1,4 @@
-// Lock files of the ladder and of each refusal: number, place and the listing's length, one line each.
+// Lock files of the ladder and of each refusal: number, place and the length of the listing, one line each.
 fn number(n: u32) {
     io::write_all(libc::STDOUT_FILENO, b" ");
     io::print_decimal(libc::STDOUT_FILENO, n as u64);

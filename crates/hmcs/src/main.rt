@@ -1,4 +1,4 @@
-// The program: a lock file from standard input; its listing, or the line of its refusal, to standard output.
+// The program: reads a lock file from standard input, and writes its listing or the refusal line to standard output.
 fn print(output: &[u8], length: usize) {
     if length <= output.len() {
         io::write_all(libc::STDOUT_FILENO, &output[..length]);

@@ -1,6 +1,6 @@
--- The calls in place meet their contracts: one walk of their MIR, by hand, for all of them. The borrow is opened, the state is copied out of it and passed to a function by value, what that function's reply leaves of the state is stored back, and the borrow is closed at it.
--- All that the walk knows of the function by value is that it meets its contract. No field of a state, of a reply or of an answer is named here, so the walk holds for any of them of plain data. The code after the call names the fields of the reply, and replies differ in them: each call in place says in its own proof which step of `stores`, `answers` and `reads` each statement is.
--- The toolchain's letters: 𝓤 is the algebra of resources, H the heap (what code may own of memory), A the atoms of ghost state, W what is given (the laws of the heap and the rules of ghost state), 𝓜 the model of the heap with the machine's memory, 𝓖 the rules of ghost state with their atoms, 𝓡 what it is to run a routine, 𝓣 the tables of calls (C) and of loops (Λ).
+-- The calls in place meet their contracts: one walk through their MIR, by hand, for all of them. The borrow is opened, the state is copied out of it and passed to a function by value, the state that the function's reply leaves is stored back, and the borrow is closed with it.
+-- The walk uses only that the function by value meets its contract. It names no field of a state, a reply or an answer, so it holds for all that are plain data. The code after the call names the fields of the reply, and these differ between calls: the proof of each call in place says which step of `stores`, `answers` and `reads` each statement is.
+-- The toolchain's letters: 𝓤 is the algebra of resources, H the heap (what code may own of memory), A the atoms of ghost state, W what is given (the laws of the heap and the rules of ghost state), 𝓜 the model of the heap with the machine's memory, 𝓖 the rules of ghost state with their atoms, 𝓡 what running a routine means, 𝓣 the tables of calls (C) and of loops (Λ).
 --
 use mathlib.Core.Path.{_≡_, refl, ap, subst}
 use Prim.Native.Nat.{ℕ, _<_, _^_}
@@ -60,11 +60,11 @@ tree-vals = LL.vals Tr.the-type Tr′.the-laws
 abbrev pub state-vals : LockState → List Val
 state-vals = LL.vals S.the-type S′.the-laws
 
--- what is known of each field of a value
+-- what is known about each field of a value
 abbrev pub Parts : (T : Declared) → LL.Laws T → T .D → Type 0
 Parts T L d = AreAll (fields T) (T .to d) (valss (fields T) (LL.spells (T .parts) L) (T .to d))
 
--- what a call in place differs in from another
+-- what differs between calls in place
 pub record CallInPlace : Type 2 where
   -- the reply of the function by value, and the answer of the call in place
   pub reply : Declared
@@ -72,7 +72,7 @@ pub record CallInPlace : Type 2 where
   pub answer : Declared
   pub answer-laws : LL.Laws answer
   pub answer-plain : Plains (fields answer)
-  -- what the function by value replies, what is returned of that, and what is left of the state
+  -- the reply of the function by value, the answer that is returned from it, and the state that it leaves
   pub replied : TreeWords → LockState → ℕ → reply .D
   pub returned : reply .D → answer .D
   pub left : LockState → reply .D → LockState
@@ -82,7 +82,7 @@ pub record CallInPlace : Type 2 where
   pub callee : Name
   pub after : Code
 
--- what a call in place is passed: the lifetime of the borrow and a share of its token, where the state lies, the borrow's ghost name, the tree, the state as it came and the number
+-- what a call in place is given: the lifetime of the borrow and a share of its token, where the state is, the borrow's ghost name, the tree, the state before the call and the number
 pub record Passed : Type 0 where
   pub κ : Lft
   pub q : Share
@@ -93,7 +93,7 @@ pub record Passed : Type 0 where
   pub state : LockState
   pub number : ℕ
 
--- where its locals stand
+-- where its locals are
 pub record Locals : Type 0 where
   pub l₀ : ℕ
   pub l₁ : ℕ
@@ -193,7 +193,7 @@ module _ (P : CallInPlace) where
       abbrev E : Env 𝓤 H
       E = (answer-type, l .l₀) ∷ (Tr′.mir, l .l₁) ∷ (ref-type, l .l₂) ∷ (tyInt w16, l .l₃) ∷ (reply-type, l .l₄) ∷ (S′.mir, l .l₅) ∷ []
 
-      -- what is held once the reply is in `_4`: the state's cell, the open borrow, and the locals, the last first
+      -- what is held once the reply is in `_4`: the state's cell, the open borrow, and the locals, the last one first
       abbrev Held : Reply → (state answer : Fml) → List (Item 𝓤)
       Held r c f =
           ‵ c ∷ ‵ (S.the-row .own (p .state) (state-vals (p .state))) ∷ ‵ (fobor (p .κ) (p .q) (Body (mem S.the-row) (p .b) (p .o) (p .γ))) ∷
@@ -202,7 +202,7 @@ module _ (P : CallInPlace) where
           ‵ (fat fullShare (tyInt w16) (l .l₃) 0 (vint w16 (p .number))) ∷ ‵ (fdies (tyInt w16) (l .l₃)) ∷ ‵ (fat fullShare ref-type (l .l₂) 0 (vptr (p .b) (p .o))) ∷ ‵ (fdies ref-type (l .l₂)) ∷
           ‵ (fat fullShare Tr′.mir (l .l₁) 0 (only (tree-vals (p .tree)))) ∷ ‵ (fdies Tr′.mir (l .l₁)) ∷ ‵ f ∷ ‵ (fdies answer-type (l .l₀)) ∷ []
 
-      -- room for the answer, and the answer
+      -- space for the answer, and the answer
       abbrev empty : Fml
       empty = froom answer-type (l .l₀) 0
 
@@ -214,7 +214,7 @@ module _ (P : CallInPlace) where
       reads r k e = load ! (from ! (fld ! e (stop !))) (look-in ! 9 (sub ! k e (whole !)))
 
       module _ {C : Calls 𝓤 H} {Λ : Loops 𝓤 H} {rest : Code} (r : Reply) (known : Known r) where
-        -- `*_2 = y;` where y is what is left of the state
+        -- `*_2 = y;` where y is the state that is left
         pub stores : Is S.the-row (p .state) (state-vals (p .state)) → {f : Fml} {y : Operand} → Opd (Go {0}) W (Held r (cell (p .state)) f) E y (LL.val S.the-type S′.the-laws (P .left (p .state) r))
             → Step (Go {0}) W (Held r (cell (P .left (p .state) r)) f) (runs C Λ E rest (atRet E Post)) (Held r (cell (p .state)) f) (runs C Λ E (seq (assign (place 2 (deref S′.mir ∷ [])) (rvOpd y)) rest) (atRet E Post))
         stores is-h y = assigns ! (of-opd ! y) (from ! (hop ! (look ! 13 refl) (stop !))) (store-raw ! 0 refl (LL.lawful S.the-type S′.the-laws 𝓤 H A W .typed (P .left (p .state) r) _ (P .left-is (p .state) r is-h known) .0))
@@ -224,17 +224,17 @@ module _ (P : CallInPlace) where
             → Step (Go {0}) W (Held r c (answered r)) (runs C Λ E rest (atRet E Post)) (Held r c empty) (runs C Λ E (seq (assign (place 0 []) (aggregate ys)) rest) (atRet E Post))
         answers ys = assigns ! (agg ! ys) (from ! (stop !)) (init ! 17 refl (LL.lawful (P .answer) (P .answer-laws) 𝓤 H A W .typed (P .returned r) _ (answer-is r known) .0))
 
-      -- how the code after the call runs, up to the return: what is left of the state is stored where it stood, and the answer is put into `_0`
+      -- how the code after the call runs, up to the return: the state that is left is stored in place, and the answer is put into `_0`
       abbrev Ends : Calls 𝓤 H → Loops 𝓤 H → Type 1
       Ends C Λ = (r : Reply) → Is S.the-row (p .state) (state-vals (p .state)) → Known r
           → Step (Go {0}) W (Held r (cell (P .left (p .state) r)) (answered r)) (runs C Λ E return (atRet E Post)) (Held r (cell (p .state)) empty) (runs C Λ E (P .after) (atRet E Post))
 
-    -- what the triple of the function by value binds outside
+    -- the values of the ghost variables in the triple of the function by value
     abbrev to-callee : Callee 𝓤 H A .Ghost
     to-callee = ((tt, tt, tt, (p .tree, (p .state, (p .number, tt))), (tree-vals (p .tree), (state-vals (p .state), (vint w16 (p .number) ∷ [], tt)))), tt)
 
     module _ (is-t : Is Tr.the-row (p .tree) (tree-vals (p .tree))) (fits : (p .number) < 2 ^ 16) where
-      -- what the function by value asks, and what it says of its reply
+      -- what the function by value requires, and what it ensures about its reply
       goes : Is S.the-row (p .state) (state-vals (p .state)) → ent 𝓤 (sem 𝓤 H A ftrue) (Callee 𝓤 H A .pre to-callee)
       goes is-h =
           qed W (‵ ftrue ∷ []) ∵ owned ! u16 (Is u16) (uint-makes 𝓤 H A W w16) (p .number) _ (refl, fits) $ fjoin ! $ owned ! S.the-row (Is S.the-row) (LL.makes S.the-type S′.the-plain 𝓤 H A) (p .state) _ is-h $ fjoin ! $
@@ -263,7 +263,7 @@ module _ (P : CallInPlace) where
             move ! (13 ∷ []) $ fsplit ! $ drop ! $ fsplit ! $ fsplit3 ! $ drop ! $ move ! (15 ∷ []) $ split ! $ move ! (2 ∷ 3 ∷ 0 ∷ []) $
             opens ! tt S.the-row {h = p .state} (p .b) (p .o) (λ vs. spelt ! S.the-row (Is S.the-row) (shows 𝓤 H A S.the-row) state-vals (LL.tells S.the-type S′.the-laws) fullShare (p .state) vs (p .b) (p .o) $
             move ! (1 ∷ []) $ peeks ! S.the-row (Is S.the-row) (shows 𝓤 H A S.the-row) (p .state) (state-vals (p .state)) (λ is-h. move ! (1 ∷ 0 ∷ []) $
-            -- [the state's cell; what a LockState owns; the open borrow; obs; auth; true; the number's; _5; …; _4; …; _3; …; _2; …; _1; …; room for _0; …]: _5 = *_2
+            -- [the state's cell; what a LockState owns; the open borrow; obs; auth; true; the number's; _5; …; _4; …; _3; …; _2; …; _1; …; space for _0; …]: _5 = *_2
             assigns ! (of-opd ! (load ! (from ! (hop ! (look ! 13 refl) (stop !))) (look-raw ! 0 refl))) (from ! (stop !)) (init ! 7 refl (LL.lawful S.the-type S′.the-laws 𝓤 H A W .typed (p .state) _ is-h .0)) $
             -- _4 = callee(_1, _5, _3)
             nothing ! $ use1 W (raw (Callee 𝓤 H A .pre to-callee)) (goes is-h) $
@@ -274,7 +274,7 @@ module _ (P : CallInPlace) where
             land ! (from ! (stop !)) (init ! 10 refl (LL.lawful (P .reply) (P .reply-laws) 𝓤 H A W .typed r _ is .0)) $
             rewrite ! 10 (λ (us : List Val). ‵ (fat fullShare reply-type l₄ 0 (only us))) (LL.tells (P .reply) (P .reply-laws) r (v ∷ []) is) refl $ drop ! $
             ends (record { l₀ = l₀; l₁ = l₁; l₂ = l₂; l₃ = l₃; l₄ = l₄; l₅ = l₅ }) r is-h (known r v is) $
-            -- the borrow is closed at what is left
+            -- the borrow is closed with the state that is left
             move ! (1 ∷ []) $ drop ! $ owned ! S.the-row (Is S.the-row) (LL.makes S.the-type S′.the-plain 𝓤 H A) (P .left (p .state) r) _ (P .left-is (p .state) r is-h (known r v is)) $ move ! (1 ∷ 0 ∷ []) $ closes ! tt S.the-row (P .left (p .state) r) (state-vals (P .left (p .state) r)) (p .b) (p .o) $
             returns ! (look ! 15 refl) $ forget ! 5 refl $ forget ! 7 refl $ forget ! 9 refl $ forget ! 11 refl $ forget ! 13 refl $ forget ! 15 refl $
             move ! (15 ∷ 16 ∷ []) $ free1 ! $ move ! (13 ∷ 14 ∷ []) $ free1 ! $ move ! (11 ∷ 12 ∷ []) $ free1 ! $ move ! (9 ∷ 10 ∷ []) $ free1 ! $ move ! (7 ∷ 8 ∷ []) $ free1 ! $ move ! (5 ∷ 6 ∷ []) $ free1 ! $ free0 ! $
@@ -299,7 +299,7 @@ module _ (P : CallInPlace) where
         let p : Passed = record { κ = κs .0; q = qs .0; b = a .1 .0 .ptr .0; o = a .1 .0 .ptr .1; γ = a .1 .0 .name; tree = a .0; state = a .1 .0 .now; number = a .1 .1 .0 } in
         via 𝓤 _ (fst∗ 𝓤 _ (emp 𝓤)) (walk W p (are .0) (are .1 .1 .0 .1) (𝓣 .C) (𝓣 .Λ) (fmOf 𝓤 H (W .laws) 𝓣) met (ends 𝓤 H A W (𝓣 .C) (𝓣 .Λ) p))))
 
-    -- so the call in place meets its contract c, where c is the one above, the code is that code, and the function by value meets its own contract
+    -- so the call in place meets its contract c if c is the one above, the code is that code, and the function by value meets its own contract
     pub meets-in-place : (𝓜 : Model 𝓤 H) (𝓖 : GhostRules 𝓤 H) (𝓡 : Running 𝓤 H 𝓜) (env : Routines) (self : Name) (routine : Routine) (c : Clauses 𝓤 Place) → ((κs : Lfts 1) (a : Args (Place .signature) κs) → leaves 𝓤 κs a ≡ c κs a)
         → Closed 𝓤 H (tables 𝓤 H 𝓜 𝓡 env .C) (tables 𝓤 H 𝓜 𝓡 env .Λ) self function → env (P .callee) ≡ routine → Meets 𝓤 H (𝓖 .A) (Value .signature) (𝓡 .run routine) (closing 𝓤 H (𝓖 .A) Value (replies 𝓤))
         → Meets 𝓤 H (𝓖 .A) (Place .signature) (𝓡 .run (env self)) (closing 𝓤 H (𝓖 .A) Place c)

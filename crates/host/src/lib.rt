@@ -1,4 +1,4 @@
-// What a C or C++ host calls; host/include/hmcs.h declares it there. Numbers, arrays and structs of them alone cross.
+// What a C or C++ host calls; host/include/hmcs.h declares it. Only numbers, and arrays and structs of numbers, are passed.
 ghost use mathlib.Core.Path.{_≡_};
 ghost use Rattle.bounds.specs.Answers.{allowances-answer, allowances-left, rounds-answer, wait-bounds-answer, wait-bounds-left};
 ghost use Rattle.chain.specs.Answers.{chain-answer, buffer-answer};
@@ -33,14 +33,14 @@ use schedules::ManyReply;
 use text_tree::TextReply;
 use waits::WaitsReply;
 
-// Number and place of an answer.
+// The number and place of an answer.
 #[repr(C)]
 pub struct Answer {
     pub number: u32,
     pub place: u32,
 }
 
-// Number and place of a step's answer, its kind and the domain it was at; refused, kind 0 and domain 0.
+// The number and place of a step's answer, its kind and its domain; if refused, kind 0 and domain 0.
 #[repr(C)]
 pub struct StepAnswer {
     pub number: u32,
@@ -49,7 +49,7 @@ pub struct StepAnswer {
     pub domain: u32,
 }
 
-// A fresh lock: a fresh state, accepted or refused. The counters of a ticket root begin at the start that is given.
+// A fresh lock: a fresh state, whether accepted or refused. The counters of a ticket root begin at the given start.
 #[no_mangle]
 pub extern "C" fn hmcs_fresh(tree: TreeWords, start: u16) -> FreshReply
     ensures { λ r. ⌜ r ≡ fresh-answer tree start ⌝ }
@@ -57,7 +57,7 @@ pub extern "C" fn hmcs_fresh(tree: TreeWords, start: u16) -> FreshReply
     lock::fresh_lock(tree, start)
 }
 
-// One step by value: its kind, the domain it was at and the state after it; refused, kind 0, domain 0 and the state as it came.
+// One step by value: its kind, its domain and the state after it; if refused, kind 0, domain 0 and the state unchanged.
 #[no_mangle]
 pub extern "C" fn hmcs_step(tree: TreeWords, state: LockState, thread: u16) -> StepReply
     ensures { λ r. ⌜ r ≡ step-answer tree state thread ⌝ }
@@ -65,7 +65,7 @@ pub extern "C" fn hmcs_step(tree: TreeWords, state: LockState, thread: u16) -> S
     lock::step_lock(tree, state, thread)
 }
 
-// A run by value: the entering threads at the front of the trace; refused, state and trace as they came.
+// A run by value: the entering threads at the front of the trace; if refused, state and trace are unchanged.
 #[no_mangle]
 pub extern "C" fn hmcs_run(
     tree: TreeWords,
@@ -79,7 +79,7 @@ pub extern "C" fn hmcs_run(
     lock::run_lock(tree, state, schedule, trace)
 }
 
-// A fresh lock by value, with the state that a host keeps: accepted, the fresh state; refused, that state as it came.
+// A fresh lock by value, given the state that a host keeps: the fresh state if accepted, the host's state if refused.
 fn fresh_kept(tree: TreeWords, state: LockState, start: u16) -> FreshReply
     ensures { λ r. ⌜ r ≡ fresh-kept (fresh-answer tree start) state ⌝ }
 {
@@ -94,7 +94,7 @@ fn fresh_kept(tree: TreeWords, state: LockState, start: u16) -> FreshReply
     }
 }
 
-// A fresh lock, written where the host keeps its state; refused, the state as it came.
+// A fresh lock, written to the state that the host keeps; if refused, the state is unchanged.
 #[no_mangle]
 pub extern "C" fn hmcs_fresh_in_place(tree: TreeWords, state: &mut LockState, start: u16) -> Answer
     ensures { λ r. ⌜ (r ≡ fresh-without-state (fresh-answer tree start)) × (now (state .exit) ≡ fresh-left (fresh-answer tree start) (now (state .entry))) ⌝ }
@@ -107,7 +107,7 @@ pub extern "C" fn hmcs_fresh_in_place(tree: TreeWords, state: &mut LockState, st
     }
 }
 
-// One step of the state that the host keeps, where it stands.
+// One step in place, on the state that the host keeps.
 #[no_mangle]
 pub extern "C" fn hmcs_step_in_place(
     tree: TreeWords,
@@ -126,7 +126,7 @@ pub extern "C" fn hmcs_step_in_place(
     }
 }
 
-// The file call on the file's bytes and the output buffer. The number is returned; place and length go where the host says.
+// The file call on the bytes of the file and the output buffer. It returns the number; place and length go to the host's pointers.
 #[no_mangle]
 pub extern "C" fn hmcs_run_file(
     file: &[u8],
@@ -145,7 +145,7 @@ pub extern "C" fn hmcs_run_file(
     r.number
 }
 
-// A lock file without its run: number and place, how many turns its schedule has, and its tree; the schedule goes to the front of the buffer. Refused, or with too little room, that buffer as it came.
+// Reads a lock file without running it: number and place, the number of schedule entries, and the tree; the schedule goes to the front of the buffer. If refused, or if the buffer is too short, it is unchanged.
 #[no_mangle]
 pub extern "C" fn hmcs_read_file(file: &[u8], schedule: &mut [u16]) -> ReadReply
     ensures { λ r. ⌜ r ≡ read-answer (now (file .entry)) ⌝ }
@@ -154,7 +154,7 @@ pub extern "C" fn hmcs_read_file(file: &[u8], schedule: &mut [u16]) -> ReadReply
     lock_file::read_file(file, schedule)
 }
 
-// The lock file of a tree and a schedule, as short as one can be, at the front of the file's buffer; refused, that buffer as it came. The number is returned; place and length go where the host says.
+// Writes the shortest lock file of a tree and a schedule to the front of the buffer; if refused, the buffer is unchanged. It returns the number; place and length go to the host's pointers.
 #[no_mangle]
 pub extern "C" fn hmcs_write_file(
     tree: TreeWords,
@@ -174,7 +174,7 @@ pub extern "C" fn hmcs_write_file(
     r.number
 }
 
-// The rate of a busy three-level lock from its thresholds and its passing times: number, place and rate; refused, the rate is 0.
+// The rate of a busy three-level lock from its thresholds and its passing times: number, place and rate; if refused, the rate is 0.
 #[no_mangle]
 pub extern "C" fn hmcs_rate(h1: u16, h2: u16, times: PassingTimes) -> RateReply
     ensures { λ r. ⌜ r ≡ reply-of (rate-answer h1 h2 times) ⌝ }
@@ -190,7 +190,7 @@ pub extern "C" fn hmcs_read_text(text: &[u8]) -> TextReply
     text_tree_call::read_text(text)
 }
 
-// Many schedules on one tree, all entries one after another, each run from its own fresh lock: of each a row of eight numbers at the front of the rows; refused as a whole, the rows as they came.
+// Many schedules on one tree, whose entries follow one another, each run from its own fresh lock: a row of eight numbers for each at the front of the rows; if the whole call is refused, the rows are unchanged.
 #[no_mangle]
 pub extern "C" fn hmcs_run_many(
     tree: TreeWords,
@@ -204,7 +204,7 @@ pub extern "C" fn hmcs_run_many(
     runs_call::many_schedules::run_many(tree, lengths, entries, rows)
 }
 
-// The check of a journal: 0 where its threads, stepped one after another from a fresh lock, give its kinds; else the number and the first byte of the first entry that is refused.
+// The check of a journal: 0 if its threads, stepped one after another from a fresh lock, take steps of its kinds; else the number and the first byte of the first refused entry.
 #[no_mangle]
 pub extern "C" fn hmcs_check_journal(tree: TreeWords, journal: &[u8]) -> JournalReply
     ensures { λ r. ⌜ r ≡ journal-answer tree (now (journal .entry)) ⌝ }
@@ -212,7 +212,7 @@ pub extern "C" fn hmcs_check_journal(tree: TreeWords, journal: &[u8]) -> Journal
     journal_call::check_journal(tree, journal)
 }
 
-// The check of steps that are named by thread, kind and domain, from a state: the number that refuses the first wrong one and its position, how many are before it and the state after those; accepted, the state after the last.
+// The check of steps named by thread, kind and domain, from a state: the number that refuses the first wrong one and its position, how many come before it and the state after those; if accepted, the state after the last.
 #[no_mangle]
 pub extern "C" fn hmcs_check_steps(
     tree: TreeWords,
@@ -226,7 +226,7 @@ pub extern "C" fn hmcs_check_steps(
     journal_call::step_check::check_steps(tree, state, threads, kinds, domains)
 }
 
-// A run, and in a row buffer of its own the waits of each thread's attempts and of all together; refused, trace and rows as they came.
+// A run that also writes the waits of each thread's attempts and of all together to its own row buffer; if refused, trace and rows are unchanged.
 #[no_mangle]
 pub extern "C" fn hmcs_run_waits(
     tree: TreeWords,
@@ -242,7 +242,7 @@ pub extern "C" fn hmcs_run_waits(
     runs_call::with_waits::run_waits(tree, state, schedule, trace, rows)
 }
 
-// The same from the attempts under way, whose numbers after the run stand where those before it stood; refused, trace, rows and numbers as they came.
+// The same for a run that continues the attempts under way; their numbers are replaced by those after the run; if refused, trace, rows and numbers are unchanged.
 #[no_mangle]
 pub extern "C" fn hmcs_run_waits_on(
     tree: TreeWords,
@@ -260,7 +260,7 @@ pub extern "C" fn hmcs_run_waits_on(
     runs_call::with_waits::run_waits_on(tree, state, schedule, trace, rows, under_way)
 }
 
-// A run, and in a buffer of its own two numbers for each step, its kind and the domain that it was at; refused, trace and rows as they came.
+// A run that also writes two numbers per step to its own buffer, the kind and the domain; if refused, trace and rows are unchanged.
 #[no_mangle]
 pub extern "C" fn hmcs_run_kinds(
     tree: TreeWords,
@@ -276,7 +276,7 @@ pub extern "C" fn hmcs_run_kinds(
     runs_call::with_kinds::run_kinds(tree, state, schedule, trace, rows)
 }
 
-// The check of a state that a host kept: what refuses it, 4 to 9, 16 or 10; 0 and 0 where every call takes it up.
+// The check of a state that a host has kept: what refuses it, 4 to 9, 16 or 10; 0 and 0 if every call accepts it.
 #[no_mangle]
 pub extern "C" fn hmcs_check_state(tree: TreeWords, state: LockState) -> Answer
     ensures { λ r. ⌜ r ≡ answer-of (check-answer tree state) ⌝ }
@@ -288,7 +288,7 @@ pub extern "C" fn hmcs_check_state(tree: TreeWords, state: LockState) -> Answer
     }
 }
 
-// The chain of threads that a thread waits for, itself first, at the front of the chain buffer; refused, that buffer as it came. The number is returned; place and length go where the host says.
+// The chain of threads that a thread waits for, starting with itself, at the front of the chain buffer; if refused, the buffer is unchanged. It returns the number; place and length go to the host's pointers.
 #[no_mangle]
 pub extern "C" fn hmcs_chain(
     tree: TreeWords,
@@ -309,7 +309,7 @@ pub extern "C" fn hmcs_chain(
     reply.number
 }
 
-// The allowances of the domains other than the root, each cut at the largest number of 64 bits, and 0 elsewhere; refused, the buffer as it came.
+// The allowances of the domains other than the root, each capped at the largest 64-bit number, and 0 elsewhere; if refused, the buffer is unchanged.
 #[no_mangle]
 pub extern "C" fn hmcs_allowances(tree: TreeWords, allowances: &mut [u64; 64]) -> Answer
     ensures { λ r. ⌜ r ≡ answer-of (allowances-answer tree) ⌝ }
@@ -322,7 +322,7 @@ pub extern "C" fn hmcs_allowances(tree: TreeWords, allowances: &mut [u64; 64]) -
     }
 }
 
-// In how many rounds of any fair schedule every thread enters, and how many turns these are by round robin.
+// In how many rounds of any fair schedule every thread enters, and how many turns these are in round robin.
 #[no_mangle]
 pub extern "C" fn hmcs_rounds(tree: TreeWords) -> RoundsReply
     ensures { λ r. ⌜ r ≡ rounds-answer tree ⌝ }
@@ -330,7 +330,7 @@ pub extern "C" fn hmcs_rounds(tree: TreeWords) -> RoundsReply
     bounds_call::rounds(tree)
 }
 
-// The longest wait of each thread while nobody stalls, in entries of others, cut at the largest number of 64 bits, and 0 after the last thread; refused, the buffer as it came.
+// The longest wait of each thread while nobody stalls, in entries of others, capped at the largest 64-bit number, and 0 in unused slots; if refused, the buffer is unchanged.
 #[no_mangle]
 pub extern "C" fn hmcs_wait_bounds(tree: TreeWords, bounds: &mut [u64; 256]) -> Answer
     ensures { λ r. ⌜ r ≡ answer-of (wait-bounds-answer tree) ⌝ }
@@ -343,7 +343,7 @@ pub extern "C" fn hmcs_wait_bounds(tree: TreeWords, bounds: &mut [u64; 256]) -> 
     }
 }
 
-// The version of the library, for a host that was compiled with the header of another.
+// The version of the library, for a host compiled with another version of the header.
 #[no_mangle]
 pub extern "C" fn hmcs_version() -> u32
     ensures { λ r. ⌜ r ≡ version-number ⌝ }
@@ -351,7 +351,7 @@ pub extern "C" fn hmcs_version() -> u32
     30000
 }
 
-// How many bytes each struct of the header has in the library.
+// The size in bytes of each struct of the header, as in the library.
 #[no_mangle]
 pub extern "C" fn hmcs_sizes(sizes: &mut [u32; 32])
     ensures { λ r. ⌜ now (sizes .exit) ≡ struct-sizes ⌝ }

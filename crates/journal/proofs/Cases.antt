@@ -1,4 +1,4 @@
--- The cases hold: each is computed.
+-- The cases hold, by computation.
 use mathlib.Core.Path.{_≡_, refl}
 use mathlib.Core.Bool.{true}
 use Rattle.model.specs.Scans.{any-below, filter-below, all-below}

@@ -1,4 +1,4 @@
--- The check, one entry after another, and with any number of turns that is enough.
+-- The check entry by entry, with any number of turns that is enough.
 use mathlib.Core.Path.{_≡_, refl, sym, ap, _∙_}
 use mathlib.Core.Bool.{cond}
 use mathlib.Core.List.{List}
@@ -19,7 +19,7 @@ use Rattle.journal.specs.Answers.{kind-checked, entry-checked, checked}
 use Rattle.journal.proofs.Facts.{moves-on}
 
 module _ (t : Tree) (bs : List ℕ) where
-  -- what the next entry leads to
+  -- the check, by the next entry
   by-entry : (n : ℕ) (s : State) (p b : ℕ) (x : Entry) → entry-at bs p b ≡ x → checked (suc n) t s bs p b ≡ entry-checked x t s p (λ s′ q j. checked n t s′ bs q j)
   unfolding checked
   by-entry n s p b x e = ap (λ y. entry-checked y t s p (λ s′ q j. checked n t s′ bs q j)) e
@@ -54,7 +54,7 @@ module _ (t : Tree) (bs : List ℕ) where
   pub past-end : (p b : ℕ) → length bs ≤ p → entry-at bs p b ≡ End
   past-end p b h = rw (le-ltb p (length bs) h)
 
-  -- an entry's check by what follows it
+  -- an entry's check depends only on what follows the entry
   same-following :
       (f g : State → ℕ → ℕ → Refusal) (s : State) (p : ℕ) (x : Entry) →
       ((i k q : ℕ) → x ≡ Named i k q → f (step t i s .state) q i ≡ g (step t i s .state) q i) → entry-checked x t s p f ≡ entry-checked x t s p g
@@ -64,7 +64,7 @@ module _ (t : Tree) (bs : List ℕ) where
   same-following f g s p Broken h = refl
   same-following f g s p End h = refl
 
-  -- turns for every byte that is left are enough
+  -- as many turns as there are bytes left are enough
   pub enough : (n m : ℕ) (s : State) (p b : ℕ) → length bs ≤ n + p → length bs ≤ m + p → checked n t s bs p b ≡ checked m t s bs p b
   enough zero zero s p b h g = refl
   enough zero (suc m) s p b h g = let e = past-end p b (omega arith) in journal-end zero s p b e ∙ sym (journal-end (suc m) s p b e)

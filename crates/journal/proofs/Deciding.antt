@@ -1,4 +1,4 @@
--- THE CHECK, exactly: accepted where all entries are steps of the table, refused at the first that is not.
+-- THE CHECK, exactly: accepted if all entries are steps of the table, refused at the first that is not.
 use mathlib.Core.Path.{_≡_, refl, sym, ap, _∙_}
 use mathlib.Core.List.{List, [], _++_, append-nil}
 use mathlib.Core.Logic.{_≢_}
@@ -24,7 +24,7 @@ module _ (w : TreeWords) (bs : List ℕ) where
   abbrev t : Tree
   t = tree-of w
 
-  -- the whole check, with any turns that are enough
+  -- the whole check; any larger number of turns gives the same
   abbrev all : Refusal
   all = checked (length bs) t (fresh-lock w) bs 0 0
 
@@ -78,7 +78,7 @@ module _ (w : TreeWords) (bs : List ℕ) where
     abbrev b : ℕ
     b = last-thread 0 (r .steps-before .entries)
 
-    -- up to the place, with turns enough for one entry more
+    -- up to the place, with enough turns for one more entry
     up-to : all ≡ checked (suc (length bs)) t s bs (length (r .front)) b
     up-to =
         let xs = r .steps-before .entries in

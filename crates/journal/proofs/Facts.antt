@@ -1,4 +1,4 @@
--- An entry that is whole, at each bit map; and that every whole entry moves on.
+-- A complete entry for each bit map; and every complete entry advances the position.
 use mathlib.Core.Path.{_≡_, refl, subst}
 use mathlib.Core.Bool.{Bool, true, false, cond}
 use mathlib.Core.List.{List}
@@ -11,13 +11,13 @@ use Rattle.journal.specs.declared.Entry.{Entry}
 use Rattle.journal.specs.declared.Entry.the-variants.{Named, Broken, End}
 use Rattle.journal.specs.Reading.{entry-size, entry-of, entry-at}
 
--- a bit map without another bit, and bytes enough after it
+-- an entry whose bit map has no other bit, with enough bytes for its fields
 pub whole-entry :
     (bs : List ℕ) (p b m : ℕ) → p < length bs → getD bs p 0 ≡ m → m ≤ 3 → entry-size m ≤ length bs - p →
     entry-at bs p b ≡ entry-of bs p b m
 whole-entry bs p b m h e k f = rw (lt-ltb p (length bs) h, e, le-ltb 3 m k, le-ltb (length bs - p) (entry-size m) f)
 
--- what follows a whole entry is after it, and within the journal; the end is after every byte
+-- what follows a whole entry is further on and within the journal; at the end no byte is left
 abbrev pub Ahead : (bytes : List ℕ) → (position : ℕ) → Entry → Type 0
 Ahead bs p (Named i k behind) = (p < behind) × (behind ≤ length bs)
 Ahead bs p Broken = Unit

@@ -1,4 +1,4 @@
--- An entry at the front of some bytes, by the relation and by reading.
+-- An entry at the front of the bytes, by the relation and by reading.
 use mathlib.Core.Path.{_≡_, refl, ap, _∙_}
 use mathlib.Core.Bool.{Bool, true, false, cond}
 use mathlib.Core.List.{List, [], _∷_, _++_}
@@ -14,7 +14,7 @@ use Rattle.journal.specs.Reading.{entry-size, entry-by, entry-at}
 use Rattle.journal.specs.Laws.{Begins-with}
 use Rattle.journal.proofs.Facts.{whole-entry}
 
--- bytes behind other bytes
+-- bytes that follow other bytes
 first-after : (xs ys : List ℕ) → getD (xs ++ ys) (length xs) 0 ≡ getD ys 0 0
 first-after [] ys = refl
 first-after (x ∷ xs) ys = first-after xs ys
@@ -37,7 +37,7 @@ module _ (bs done rest : List ℕ) (e : bs ≡ done ++ rest) where
   pub end-there : (b : ℕ) → rest ≡ [] → entry-at bs (length done) b ≡ End
   end-there b z = rw (le-ltb (length done) (length bs) (omega (arith, long, ap length z)))
 
-  -- an entry that is cut off, or has another bit set
+  -- an entry that is cut short, or has another bit set
   pub broken-there : (b : ℕ) → 0 < length rest → (3 < getD rest 0 0) ⊎ (length rest < entry-size (getD rest 0 0)) → entry-at bs (length done) b ≡ Broken
   broken-there b h f = rw (lt-ltb (length done) (length bs) (omega (arith, long)), first-is) (by f)
     where
@@ -66,7 +66,7 @@ entry-there bs done further b (both-given low high kind) e =
     whole-entry bs (length done) b 3 (omega (arith, long bs done _ e)) (first-is bs done _ e) (lit≤ tt) (omega (arith, long bs done _ e))
     ∙ rw (byte-is bs done _ e 1, byte-is bs done _ e 2, byte-is bs done _ e 3)
 
--- what an entry says of the bytes that begin with it
+-- what an entry implies about the bytes that begin with it
 entry-shape :
     {b : ℕ} {front : List ℕ} {x : Named-step} → Entry-bytes b front x → (bs further : List ℕ) → bs ≡ front ++ further →
     (getD bs 0 0 ≤ 3) × (entry-size (getD bs 0 0) ≤ length bs)
@@ -81,7 +81,7 @@ entry-long (thread-given low high) = omega arith
 entry-long (kind-given kind) = omega arith
 entry-long (both-given low high kind) = omega arith
 
--- THE FRONT OF SOME BYTES: none, an entry, or no entry
+-- THE FRONT OF SOME BYTES: nothing, an entry, or something that is no entry
 pub data Front (before : ℕ) (bytes : List ℕ) : Type 0 where
   nothing-left : bytes ≡ [] → Front before bytes
   whole : (x : Named-step) → Begins-with before bytes x → Front before bytes

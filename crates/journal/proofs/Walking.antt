@@ -1,4 +1,4 @@
--- Entries that are steps of the table, read one after another by the check; and what the check of some bytes comes to.
+-- Entries that are steps of the table, read in order by the check; and the result of the check of some bytes.
 use mathlib.Core.Path.{_≡_, refl, sym, ap, _∙_, subst}
 use mathlib.Core.List.{List, [], _∷_, _++_, append-assoc}
 use mathlib.Core.Logic.{_≢_}
@@ -45,7 +45,7 @@ module _ (t : Tree) (s : State) where
     unfolding steps threads-of kinds-of kind-numbers All-threads
     one-taken h e o = record { threads-known = (h, o .threads-known); kinds-given = rw (e, o .kinds-given) }
 
--- the state after some steps, and the thread of the last
+-- the state after some steps
 abbrev pub after : Tree → State → List Named-step → State
 after t s xs = state-after s (steps t (threads-of xs) s)
 
@@ -69,7 +69,7 @@ module _ (t : Tree) (bs : List ℕ) where
       ∙ passes-over es (done ++ f) rest (together ∙ simp append-assoc) (step t (x .thread) s .state) (others-taken t s x xs o) n
       ∙ ap (λ p. checked n t (after t (step t (x .thread) s .state) xs) bs p (last-thread (x .thread) xs)) end)
 
--- WHAT THE CHECK OF SOME BYTES COMES TO, from a state on and after a thread
+-- THE RESULT OF CHECKING SOME BYTES, from a state and after a thread
 pub data Outcome (t : Tree) (s : State) (before : ℕ) (bytes : List ℕ) (offset : ℕ) (r : Refusal) : Type 0 where
   all-taken : (xs : List Named-step) → Entries before bytes xs → Of-the-table t s xs → r ≡ accepted → Outcome t s before bytes offset r
   stopped :
@@ -85,7 +85,7 @@ module _ (t : Tree) (bs : List ℕ) where
       let y : offset + 0 ≡ offset = omega arith in
       stopped [] rest [] n refl no-entry (none-taken t s) f z (rw y e)
 
-  -- one step of the table, then what the check of the bytes after it comes to
+  -- one step of the table, then the result of the check of the bytes after it
   one-more :
       (s : State) (b : ℕ) (rest : List ℕ) (offset : ℕ) (r : Refusal) (x : Named-step) (g : Begins-with b rest x) → x .thread < t .threads →
       x .kind ≡ kind-number (step t (x .thread) s .kind) → Outcome t (step t (x .thread) s .state) (x .thread) (g .further) (offset + length (g .front)) r →
@@ -97,7 +97,7 @@ module _ (t : Tree) (bs : List ℕ) where
       stopped (g .front ++ front) rest′ (x ∷ xs) n (g .together ∙ ap (λ y. g .front ++ y) e ∙ simp append-assoc) (next-entry refl (g .entry) es)
       (one-taken t s x xs h k o) f z (d ∙ ap (refusal n) place)
 
-  -- the first entry decides, or the check of what is after it
+  -- the first entry decides, or the check of the bytes after it
   module _ (n : ℕ) (done rest : List ℕ) (s : State) (b : ℕ) (e : bs ≡ done ++ rest) where
     abbrev Comes-to : Type 0
     Comes-to = Outcome t s b rest (length done) (checked (suc n) t s bs (length done) b)

@@ -18,7 +18,7 @@ use Rattle.journal.proofs.Fronts.{entry-there, entry-long}
 use Rattle.journal.proofs.Walking.{none-taken, one-taken}
 use Rattle.journal.proofs.Deciding.{check-law}
 
--- ONE READING. What an entry that is read names, and how long it is
+-- ONE READING. What an entry names, and how long it is
 abbrev thread-in : Entry → ℕ
 thread-in (Named i k p) = i
 thread-in Broken = 0
@@ -51,7 +51,7 @@ module _ (b : ℕ) (bs f g r q : List ℕ) (x y : Named-step) (e : bs ≡ f ++ r
       let z : length f ≡ length g = omega (arith, ap size-in both) in
       sym (further-is f r) ∙ ap (drop (length f)) (sym e ∙ d) ∙ ap (λ n. drop n (g ++ q)) z ∙ further-is g q
 
--- no entry is in no bytes
+-- no entry is empty
 some-bytes : (b : ℕ) (bs f r : List ℕ) (x : Named-step) → bs ≡ f ++ r → Entry-bytes b f x → bs ≡ [] → ⊥
 some-bytes b bs f r x e h z = omega (arith, entry-long h, sym (ap length e) ∙ ap length z, length-append f r)
 
@@ -74,7 +74,7 @@ unfoldable steps-named : Tree → List ℕ → State → List Named-step
 steps-named t [] s = []
 steps-named t (i ∷ is) s = named i (kind-number (step t i s .kind)) ∷ steps-named t is (step t i s .state)
 
--- a number by its low and its high part
+-- a number from its low and its high byte
 parts : (i k : ℕ) → named (i % 256 + 256 * (i / 256)) k ≡ named i k
 parts i k = let z : i % 256 + 256 * (i / 256) ≡ i = omega arith in rw z
 

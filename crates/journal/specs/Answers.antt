@@ -19,31 +19,32 @@ use Rattle.journal.specs.Reading.{entry-at}
 abbrev pub fresh-lock : TreeWords → State
 fresh-lock w = fresh-answer w 0 .state .words
 
--- 26, the kind is not the step's; else what follows
+-- 26 if the kind is not the step's; otherwise what follows
 unfoldable pub kind-checked : (kind position : ℕ) → Step → (following : State → Refusal) → Refusal
 kind-checked k p x f = cond (eqb (kind-number (x .kind)) k) (f (x .state)) (refusal 26 p)
 
--- 25, the entry is cut off or has another bit set; then 12 for its thread; then 26. The place is that of the entry's first byte
+-- one entry: 25 if it is cut off or has another bit set; then 12 for its thread; then 26. The place is that of its first byte
 unfoldable pub entry-checked : Entry → Tree → State → (position : ℕ) → (following : State → (behind thread : ℕ) → Refusal) → Refusal
 entry-checked (Named i k behind) t s p f =
     cond (leb (t .threads) i) (refusal 12 p) (kind-checked k p (step t i s) (λ s′. f s′ behind i))
 entry-checked Broken t s p f = refusal 25 p
 entry-checked End t s p f = accepted
 
--- entry by entry from a position on, the steps one after another from a state; at most so many entries
+-- the entries from a position on, whose steps follow one another from a state; at most `left` entries
 unfoldable pub checked : (left : ℕ) → Tree → State → (bytes : List ℕ) → (position before : ℕ) → Refusal
 checked zero t s bs p b = accepted
 checked (suc n) t s bs p b = entry-checked (entry-at bs p b) t s p (λ s′ behind i. checked n t s′ bs behind i)
 
--- 4 to 9 and 16 for the tree, then the entries from a fresh lock. No journal has more entries than bytes
+-- 4 to 9 and 16 for the tree, then the entries, from a fresh lock. A journal has at most as many entries as bytes
 unfoldable pub journal-refusal : TreeWords → (bytes : List ℕ) → Refusal
 journal-refusal w bs =
     let r = tree-refusal (tree-of w) in
     cond (eqb (r .number) 0) (checked (length bs) (tree-of w) (fresh-lock w) bs 0 0) r
 
--- number and place as the call returns them
+-- the reply with the number and place of a refusal
 abbrev pub replied : Refusal → JournalReply
 replied r = record { number = r .number; place = r .place }
 
+-- what the call answers
 unfoldable pub journal-answer : TreeWords → (bytes : List ℕ) → JournalReply
 journal-answer w bs = replied (journal-refusal w bs)

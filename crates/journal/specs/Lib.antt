@@ -1,4 +1,4 @@
--- In the order of document 02, request (xiv): what a reader must believe about the check of a journal. The laws' proofs are in proofs/.
+-- The definitions about the check of a journal that a reader must trust, in the order of document 02, (xiv). The proofs of the laws are in proofs/.
 pub mod Entries
 pub mod Reading
 pub mod Answers

@@ -1,7 +1,7 @@
 // What the check of steps returns.
 use model::LockState;
 
-// Number and place, how many steps were found right, and the state after them. Number 0 is accepted.
+// Number and place, how many steps are right, and the state after them. Number 0 means accepted.
 #[repr(C)]
 pub struct StepsReply {
     pub number: u32,

@@ -1,4 +1,4 @@
--- The check of a journal piece by piece: the state so far, the entries still ahead, and what a piece comes to.
+-- The check of a journal piece by piece: the state so far, the entries left, and the result of a piece.
 use mathlib.Core.Path.{_≡_, sym, ap, _∙_, subst}
 use mathlib.Core.Bool.{Bool}
 use mathlib.Core.List.{List, [], _∷_}
@@ -43,7 +43,7 @@ use Rattle.journal_call.specs.Journals.{So-far, Turned, stop-of}
 use Rattle.lock.proofs.steps.Starting.{fresh-from-zero}
 use Rattle.lock.proofs.steps.StepCodes.{code-kind}
 
--- WHAT IS TOLD OF A STEP has its kind in the lowest three bits
+-- WHAT IS REPORTED FOR A STEP has its kind in the lowest three bits
 kind-of-code : (b : List ℕ) (xs : List Step) (j : ℕ) → j < length xs → length xs ≤ length b → getD (codes-front b xs) j 0 % 8 ≡ getD (kind-numbers xs) j 0
 unfolding codes-front kind-numbers
 kind-of-code b [] j h f = absurd (omega arith)
@@ -60,7 +60,7 @@ module _ (w : TreeWords) (bs : List ℕ) where
   unfolding journal-answer journal-refusal
   answers ok s p b g r e = rw (eq-eqb (tree-refusal t .number) 0 ok) (ap replied (sym e ∙ g .ahead))
 
-  -- the tree, by what the code was told of it
+  -- the tree, by the result of its tests
   module _ (r : Refusal-words) (e : r ≡ refusal-words (tree-refusal t)) where
     pub tree-refused : (r .number ≡ 0 → ⊥) → record { number = r .number; place = r .place } ≡ journal-answer w bs
     unfolding journal-answer journal-refusal
@@ -110,7 +110,7 @@ module _ (w : TreeWords) (bs : List ℕ) where
       pub moves : p + c .count ≤ c .position
       moves = omega (arith, stretch-moves read, long)
 
-      -- its kinds against those that were told
+      -- its kinds, compared with those of the steps
       module _ (codes₀ codes : List ℕ) (e : codes ≡ codes-front codes₀ (steps t is s)) (room : c .count ≤ length codes₀) (m : ℕ) (low : Lowest (c .count) (other-kind kinds codes) m) where
         kind-of-step : (j : ℕ) → j < c .count → getD codes j 0 % 8 ≡ getD (kind-numbers (steps t is s)) j 0
         kind-of-step j h =
@@ -122,7 +122,7 @@ module _ (w : TreeWords) (bs : List ℕ) where
             let q : j < c .count = omega (arith, low .within) in
             getD-take (c .count) kinds j 0 q ∙ eqb-true (getD kinds j 0) (getD codes j 0 % 8) (not-false _ (low .passed j (omega arith))) ∙ kind-of-step j q
 
-        -- 26 at the first entry whose kind is another
+        -- 26 at the first entry with another kind
         pub differs : m < c .count → (place : ℕ) → place ≡ position-after m bs p b → replied (refusal 26 place) ≡ journal-answer w bs
         differs h place f =
             let other : getD kinds m 0 ≢ getD codes m 0 % 8 = eqb-false (getD kinds m 0) (getD codes m 0 % 8) (not-true _ (low .fails h)) in
@@ -133,7 +133,7 @@ module _ (w : TreeWords) (bs : List ℕ) where
           behind : checked (length bs) t s bs p b ≡ checked (length bs) t (state-after s (steps t is s)) bs (c .position) (c .before)
           behind = goes-on t bs read s (same-kinds (length is) (omega (arith, long)))
 
-          -- the number with which reading stopped
+          -- reading stopped with a number
           pub stops : c .number ≢ 0 → replied (refusal (c .number) (c .position)) ≡ journal-answer w bs
           unfolding tree-of
           stops n = answers ok s p b g (refusal (c .number) (c .position)) (behind ∙ stopped-by t bs _ (c .position) (c .before) (c .number) (r .stops) n)
@@ -143,7 +143,7 @@ module _ (w : TreeWords) (bs : List ℕ) where
           unfolding accepted
           ends n = answers ok s p b g accepted (behind ∙ ended t bs _ (c .position) (c .before) n)
 
-          -- or the next piece
+          -- the next piece
           pub turn : (s′ : State) → s′ ≡ run t is s .state → So-far w bs s′ (c .position) (c .before)
           unfolding run run-of Form-law
           turn s′ f =
@@ -153,6 +153,6 @@ module _ (w : TreeWords) (bs : List ℕ) where
                 ahead = ap (λ x. checked (length bs) t x bs (c .position) (c .before)) f ∙ sym behind ∙ g .ahead;
               }
 
--- a turn that stops says the answer, and goes nowhere
+-- a turn that stops has the answer
 pub stopping : (w : TreeWords) (bs : List ℕ) (p : ℕ) (r : Turn) (q b n m : ℕ) (s : State) → r ≡ stop-of q b n m → replied (refusal n m) ≡ journal-answer w bs → Turned w bs p r s
 stopping w bs p r q b n m s e a = subst (λ x. Turned w bs p x s) (sym e) (record { goes = λ z. absurd (subst (λ (h : Bool). Holds h) z tt); ends = λ _. a })

@@ -1,4 +1,4 @@
--- A piece of the journal against the steps of its threads: the check goes on after it, or 26 stands at the first entry whose kind is not the step's.
+-- A piece of the journal compared with the steps of its threads: the check continues after it, or 26 refuses at the first entry whose kind is not the step's.
 use mathlib.Core.Path.{_≡_, refl, sym, ap, _∙_}
 use mathlib.Core.List.{List}
 use mathlib.Core.Logic.{_≢_}
@@ -18,7 +18,7 @@ use Rattle.journal.proofs.Facts.{moves-on}
 use Rattle.journal_call.proofs.reader.Stretching.{position-next, position-none}
 use Rattle.journal.proofs.Checking.{unknown-thread, same-kind, other-kind, broken-entry, journal-end, past-end, enough}
 
--- A STRETCH of entries: its threads are known, and each entry takes at least one byte
+-- A STRETCH of entries: its threads are of the tree, and each entry takes at least one byte
 pub stretch-threads : (t : Tree) {bs is ks : List ℕ} {p b e l : ℕ} → Stretch (t .threads) bs p b is ks e l → All-threads t is
 unfolding All-threads
 stretch-threads t none-read = tt
@@ -58,7 +58,7 @@ module _ (t : Tree) (bs : List ℕ) where
       ∙ stretch-stops r (step t i s .state) m (omega arith) (λ j l. f (suc j) (omega arith)) d n
       ∙ ap (refusal 26) (sym (position-next m bs p b i k q g)))
 
-  -- THE SAME OF THE WHOLE CHECK from a position on
+  -- THE SAME FOR THE WHOLE CHECK from a position on
   module _ {is ks : List ℕ} {p b e l : ℕ} (r : Stretch (t .threads) bs p b is ks e l) (s : State) where
     pub goes-on : Same-kinds t s is ks (length is) → checked (length bs) t s bs p b ≡ checked (length bs) t (state-after s (steps t is s)) bs e l
     goes-on f = enough t bs (length bs) (length is + length bs) s p b (omega arith) (omega arith) ∙ stretch-passes r s f (length bs)
@@ -68,7 +68,7 @@ module _ (t : Tree) (bs : List ℕ) where
         checked (length bs) t s bs p b ≡ refusal 26 (position-after m bs p b)
     stops-here m h f d = enough t bs (length bs) (length is + length bs) s p b (omega arith) (omega arith) ∙ stretch-stops r s m h f d (length bs)
 
-  -- after a piece: the number with which reading stopped, or the end
+  -- after a piece: the number with which reading stopped, or the end of the journal
   pub stopped-by : (s : State) (p b n : ℕ) → Stops (t .threads) bs p b n → n ≢ 0 → checked (length bs) t s bs p b ≡ refusal n p
   stopped-by s p b _ for-room z = absurd (z refl)
   stopped-by s p b _ (for-broken f) z = enough t bs (length bs) (suc (length bs)) s p b (omega arith) (omega arith) ∙ broken-entry t bs (length bs) s p b f

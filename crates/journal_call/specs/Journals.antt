@@ -1,4 +1,4 @@
--- The check of a journal piece by piece: what holds where the reader stands between two pieces, and what a piece comes to.
+-- The check of a journal piece by piece: what holds between two pieces, and the result of a piece.
 use mathlib.Core.Path.{_≡_}
 use mathlib.Core.Bool.{true, false}
 use mathlib.Core.List.{List}
@@ -12,7 +12,7 @@ use Rattle.model.specs.Laws.{Formed}
 use Rattle.journal.specs.Answers.{fresh-lock, checked, replied, journal-answer}
 use Rattle.journal_call.specs.declared.journals.Turn.{Turn}
 
--- the tree passes its tests, the state so far is well formed, and what is still ahead decides the answer
+-- the tree passes its tests, the state so far is well formed, and the rest of the journal decides the answer
 pub record So-far (tree : TreeWords) (bytes : List ℕ) (state : State) (position before : ℕ) : Type 0 where
   pub passes : tree-refusal (tree-of tree) .number ≡ 0
   pub formed : Formed (tree-of tree) state
@@ -22,7 +22,7 @@ pub record So-far (tree : TreeWords) (bytes : List ℕ) (state : State) (positio
 abbrev pub stop-of : (position before number place : ℕ) → Turn
 stop-of p b n m = record { stopped = true; position = p; before = b; number = n; place = m }
 
--- after a piece: the answer, or the state and the place from which the next piece goes on
+-- after a piece: the answer, or the state and the position from which the next piece continues
 pub record Turned (tree : TreeWords) (bytes : List ℕ) (position : ℕ) (turn : Turn) (state : State) : Type 0 where
   pub goes : turn .stopped ≡ false → (position < turn .position) × (turn .position ≤ length bytes) × So-far tree bytes state (turn .position) (turn .before)
   pub ends : turn .stopped ≡ true → replied (refusal (turn .number) (turn .place)) ≡ journal-answer tree bytes

@@ -1,4 +1,4 @@
--- What the check compares. The definitions that it meets are in `journal`.
+-- What the check compares. The definitions that the call meets are in `journal`.
 pub mod Kinds
 pub mod Reader
 pub mod Pieces

@@ -1,2 +1,2 @@
--- What a piece of a journal is. The definitions of an entry are in `journal`, those of entries one after another in `journal_reader`.
+-- What a piece of a journal is. The definition of an entry is in `journal`, that of consecutive entries in Reader.
 pub mod Pieces

@@ -1,2 +1,2 @@
--- What the reader reads. The definitions of an entry are in `journal`.
+-- What the reader reads. The definition of an entry is in `journal`.
 pub mod Stretches

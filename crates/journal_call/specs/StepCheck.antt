@@ -1,2 +1,2 @@
--- What the functions after the call promise. The definitions that it meets are in `step_check`.
+-- What the functions inside the call promise. The definitions that the call meets are in `journal`.
 pub mod Stretches

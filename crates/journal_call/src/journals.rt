@@ -1,4 +1,4 @@
-// The steps that a journal names, taken from a fresh lock, piece by piece: the entries of a piece are read, their threads stepped by the run's loop, and the kinds that it tells compared. One reader walks the journal from the first byte to the last.
+// The steps that a journal names, taken from a fresh lock, piece by piece: the entries of a piece are read, their threads stepped by the run's loop, and the reported kinds compared. One reader goes through the whole journal.
 ghost use mathlib.Core.Path.{_≡_};
 ghost use mathlib.Core.Bool.{cond};
 ghost use Prim.Native.Nat.{_%_, _≤_};
@@ -20,7 +20,7 @@ use crate::reader::Reader;
 use journal::JournalReply;
 use model::TreeWords;
 
-// The mark 1 where a kind is not what the run's loop told of a step; else the mark as it was.
+// The mark 1 if a kind is not the one reported for a step; otherwise the mark unchanged.
 fn marked(mark: u16, kind: u8, code: u16) -> u16
     ensures { λ r. ⌜ r ≡ cond (eqb kind (code % 8)) mark 1 ⌝ }
 {
@@ -30,7 +30,7 @@ fn marked(mark: u16, kind: u8, code: u16) -> u16
     mark
 }
 
-// 0 where all of some entries name the kinds that the run's loop told of their steps. It looks at all of them, so that many can be compared at once.
+// 0 if all entries name the kinds that the run's loop reported. It looks at all of them, so that the compiler can compare many at once.
 fn any_difference(kinds: &[u8], codes: &[u16], count: usize) -> u16
     requires { ⌜ count ≤ length (now kinds) ⌝ }
     requires { ⌜ count ≤ length (now codes) ⌝ }
@@ -45,7 +45,7 @@ fn any_difference(kinds: &[u8], codes: &[u16], count: usize) -> u16
     mark
 }
 
-// The first of some entries whose kind is not what the run's loop told of its step; how many there are, where none is.
+// The first entry whose kind is not the one reported for its step; the number of entries if there is none.
 fn first_difference(kinds: &[u8], codes: &[u16], count: usize) -> usize
     requires { ⌜ count ≤ length (now kinds) ⌝ }
     requires { ⌜ count ≤ length (now codes) ⌝ }
@@ -62,7 +62,7 @@ fn first_difference(kinds: &[u8], codes: &[u16], count: usize) -> usize
     k
 }
 
-// How many entries, from the first on, name the kinds that the run's loop told of their steps. The first that does not is looked for only where there is one.
+// How many entries, from the first on, name the kinds that the run's loop reported. The first that does not is searched only if there is one.
 fn first_other_kind(kinds: &[u8], codes: &[u16], count: usize) -> usize
     requires { ⌜ count ≤ length (now kinds) ⌝ }
     requires { ⌜ count ≤ length (now codes) ⌝ }
@@ -81,7 +81,7 @@ fn answer_at(number: u32, place: usize) -> JournalReply
     JournalReply { number, place }
 }
 
-// The steps of a piece's threads, on the arrays that are lent. What each step was is told. The counters of the domains, which no step reads, start at 0 for each piece, so that no journal is too long for them.
+// The steps of a piece's threads, on borrowed arrays, each reported. The counters of the domains, which no step reads, start at 0 for each piece, so that no journal is too long for them.
 fn run_piece(
     tree: TreeWords,
     tails: &mut [u16; 64],
@@ -133,7 +133,7 @@ fn run_piece(
     );
 }
 
-// What a piece comes to: where the next one begins and the thread that the entry before it names; or, stopped, the answer.
+// The result of a piece: where the next one starts and the thread of the entry before it; or, if stopped, the answer.
 pub struct Turn {
     pub stopped: bool,
     pub position: usize,
@@ -155,7 +155,7 @@ fn stopped_by(piece: Piece, number: u32, place: usize) -> Turn
     }
 }
 
-// The piece of a journal at a position: its entries are read, their threads stepped, their kinds compared. The state goes on in the arrays that are lent.
+// The piece of a journal at a position: its entries are read, their threads stepped, their kinds compared. The borrowed arrays hold the state.
 fn check_piece(
     tree: TreeWords,
     journal: &[u8],
@@ -217,7 +217,7 @@ fn check_piece(
     }
 }
 
-// Walks a journal with one reader from the first byte to the last, a piece at a time. No branch but the loop's own: its proof is by hand, since the reader holds the journal.
+// Goes through a journal with one reader, piece by piece. It has no branch except the loop's own: its proof is by hand, since the reader holds the journal.
 fn walk_entries(
     tree: TreeWords,
     journal: &[u8],
@@ -271,7 +271,7 @@ fn walk_entries(
     }
 }
 
-// The entries of a journal. Each piece goes on from the state that the one before it left, in arrays that are lent to all of them.
+// The entries of a journal. Each piece continues from the state that the one before it left, in arrays that all of them borrow.
 pub(crate) fn check_entries(tree: TreeWords, journal: &[u8]) -> JournalReply
     requires { ⌜ tree-refusal (tree-of tree) .number ≡ 0 ⌝ }
     ensures { λ r. ⌜ r ≡ journal-answer tree (now (journal .entry)) ⌝ }

@@ -1,4 +1,4 @@
-// The check of a journal, document 02, (xiv): the tree's tests, and then its entries.
+// The check of a journal, document 02, (xiv): the tests of the tree, and then the entries.
 pub mod pieces;
 pub mod reader;
 pub mod step_check;
@@ -11,7 +11,7 @@ mod journals;
 use journal::JournalReply;
 use model::TreeWords;
 
-// The check of a journal: its threads, stepped one after another from a fresh lock, give its kinds; else the number and the first byte of the first entry that is refused.
+// The check of a journal: 0 if its threads, stepped one after another from a fresh lock, take steps of its kinds; else the number and the first byte of the first refused entry.
 pub fn check_journal(tree: TreeWords, journal: &[u8]) -> JournalReply
     ensures { λ r. ⌜ r ≡ journal-answer tree (now (journal .entry)) ⌝ }
 {

@@ -1,4 +1,4 @@
-// Pieces of a journal, as many entries as there is room for: those that are alike many at a time, the others one by one. What is read is what reading entry by entry reads; only how soon the next position is known differs.
+// Pieces of a journal, as many entries as the buffers hold: entries with the same bit map several at a time, the others one by one. The result is the same as reading entry by entry; only the next position is known earlier.
 ghost use mathlib.Core.Path.{_≡_};
 ghost use Prim.Native.Nat.{_+_, _≤_, _<_};
 ghost use lib.ListN.{length};
@@ -19,7 +19,7 @@ fn smaller(a: usize, b: usize) -> usize
     b
 }
 
-// So many after an index, or as many as there are.
+// A number of elements after an index, or up to the end.
 fn end_after(room: usize, count: usize, wanted: usize) -> usize
     requires { ⌜ count < room ⌝ }
     requires { ⌜ (0 < wanted) × (wanted ≤ 32) ⌝ }
@@ -32,7 +32,7 @@ fn end_after(room: usize, count: usize, wanted: usize) -> usize
     count + wanted
 }
 
-// Four after an index, or thirty-two, or as many as there are.
+// Four after an index, or thirty-two, or up to the end.
 fn block_end(room: usize, count: usize, four: bool) -> usize
     requires { ⌜ count < room ⌝ }
     ensures { λ r. ⌜ (count < r) × (r ≤ count + 32) ⌝ }
@@ -44,7 +44,7 @@ fn block_end(room: usize, count: usize, four: bool) -> usize
     end_after(room, count, 32)
 }
 
-// Reads up to thirty-two entries from a position on into the room from one index on and up to another, or up to the journal's end or the first that 25 or 12 refuses; with a table of sizes where there are so many and the journal has bytes enough for it.
+// Reads up to thirty-two entries from a position on into the arrays from one index up to another, or up to the journal's end or the first entry that 25 or 12 refuses; with a table of sizes if there are enough entries and bytes for it.
 fn read_next(
     journal: &[u8],
     position: usize,
@@ -100,7 +100,7 @@ fn read_next(
     blocks::read_block(journal, position, before, known, threads, kinds, from, end)
 }
 
-// Reads entries from a position on, as many as there is room for, up to the journal's end or the first that 25 or 12 refuses; their threads and kinds at the front of the room. Where four or sixteen alike follow each other they are read at once, else some one by one: four behind such ones, since others like them may follow where a thread moves on in bursts, and then thirty-two.
+// Reads as many entries as the arrays hold from a position on, up to the journal's end or the first entry that 25 or 12 refuses; their threads and kinds go to the front of the arrays. Four or sixteen entries in a row with the same bit map are read at once, others one by one: four of them after such entries, since more may follow where a thread runs in bursts, and otherwise thirty-two.
 pub fn read_piece(
     journal: &[u8],
     position: usize,

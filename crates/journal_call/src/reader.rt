@@ -1,4 +1,4 @@
-// The reader of a journal, document 02, (xiv): it holds the lent bytes and where it stands in them. Here is also how entries are read one by one, by functions on the bytes and a position; `walk_entries` holds a reader from the first byte to the last.
+// The reader of a journal, document 02, (xiv): it holds the borrowed bytes and its position in them. The functions that read entries one by one, given the bytes and a position, are here too; `walk_entries` uses one reader for the whole journal.
 ghost use mathlib.Core.Path.{_≡_};
 ghost use mathlib.Core.Bool.{cond};
 ghost use Prim.Native.Nat.{_+_, _*_, _≤_, _<_};
@@ -8,14 +8,14 @@ ghost use Rattle.journal.specs.Reading.{entry-size, entry-thread, entry-kind, e
 ghost use Rattle.journal_call.specs.Reader.Stretches.{position-after, piece-of, Read-on, Stopped-before};
 use journal::Entry;
 
-// A lent journal, a position in it, and the thread that the entry before it names.
+// A borrowed journal, a position in it, and the thread of the entry before the position.
 pub struct Reader<'a> {
     pub journal: &'a [u8],
     pub position: usize,
     pub before: u16,
 }
 
-// Some entries one after another: how many, the position after them, the thread that the last one names. Where the entry at that position is refused by 25 or 12, this number, else 0.
+// Consecutive entries: how many, the position after them, the thread of the last. If 25 or 12 refuses the entry at that position, this number, else 0.
 pub struct Piece {
     pub count: usize,
     pub position: usize,
@@ -41,7 +41,7 @@ fn size_of(bits: u8) -> usize
     }
 }
 
-// A thread that is given, or that of the entry before; by a product and not by a branch, since nothing foretells which it is.
+// The given thread, or that of the entry before; by a product instead of a branch, which would be unpredictable.
 fn thread_by(given: u16, there: u16, before: u16) -> u16
     requires { ⌜ given ≤ 1 ⌝ }
     ensures { λ r. ⌜ r ≡ cond (eqb given 1) there before ⌝ }
@@ -49,7 +49,7 @@ fn thread_by(given: u16, there: u16, before: u16) -> u16
     given * there + (1 - given) * before
 }
 
-// A kind that is given, or 0.
+// The given kind, or 0.
 fn kind_by(given: u8, there: u8) -> u8
     requires { ⌜ given ≤ 1 ⌝ }
     ensures { λ r. ⌜ r ≡ cond (eqb given 1) there 0 ⌝ }
@@ -57,7 +57,7 @@ fn kind_by(given: u8, there: u8) -> u8
     given * there
 }
 
-// The thread that an entry of a bit map names, where four bytes are left, which hold every entry: all that it may have is read, and what it has is taken.
+// The thread of an entry with this bit map, if four bytes are left, which is enough for any entry: every field is read, and those that the entry has are used.
 pub fn thread_at(journal: &[u8], position: usize, before: u16, bits: usize) -> u16
     requires { ⌜ bits ≤ 3 ⌝ }
     requires { ⌜ position + 4 ≤ length (now journal) ⌝ }
@@ -67,7 +67,7 @@ pub fn thread_at(journal: &[u8], position: usize, before: u16, bits: usize) -> u
     thread_by((bits % 2) as u16, there, before)
 }
 
-// The kind that it names.
+// The kind of such an entry.
 pub fn kind_at(journal: &[u8], position: usize, bits: usize) -> u8
     requires { ⌜ bits ≤ 3 ⌝ }
     requires { ⌜ position + 4 ≤ length (now journal) ⌝ }
@@ -77,7 +77,7 @@ pub fn kind_at(journal: &[u8], position: usize, bits: usize) -> u8
     kind_by((bits / 2) as u8, journal[at])
 }
 
-// The entry of a bit map, where four bytes are left.
+// The entry with this bit map, if four bytes are left.
 fn whole_entry(journal: &[u8], position: usize, before: u16, bits: usize) -> Entry
     requires { ⌜ bits ≤ 3 ⌝ }
     requires { ⌜ position + 4 ≤ length (now journal) ⌝ }
@@ -90,7 +90,7 @@ fn whole_entry(journal: &[u8], position: usize, before: u16, bits: usize) -> Ent
     }
 }
 
-// The entry at a position of some bytes, where the entry before names a thread. All that reads entry by entry stands on this one.
+// The entry at a position, given the thread of the entry before. All reading entry by entry uses this function.
 pub fn read_entry(journal: &[u8], position: usize, before: u16) -> Entry
     ensures { λ r. ⌜ r ≡ entry-at (now (journal .entry)) position before ⌝ }
 {
@@ -142,7 +142,7 @@ pub fn stopped(count: usize, position: usize, before: u16, number: u32) -> Piece
     }
 }
 
-// Reads entries from a position on, one after another, into the room from one index on and up to another; up to the journal's end or the first that 25 or 12 refuses.
+// Reads consecutive entries from a position on into the arrays from one index up to another; up to the journal's end or the first entry that 25 or 12 refuses.
 pub fn read_some(
     journal: &[u8],
     position: usize,
@@ -186,7 +186,7 @@ pub fn read_some(
     stopped(count, at, last, 0)
 }
 
-// The position after so many entries; where there are fewer, after the last of them.
+// The position after a number of entries; if there are fewer, after the last of them.
 pub fn position_after(journal: &[u8], position: usize, before: u16, count: usize) -> usize
     ensures { λ r. ⌜ r ≡ position-after count (now (journal .entry)) position before ⌝ }
 {

@@ -1,4 +1,4 @@
-// The check of steps that a host names by thread, kind and domain, from a state that it hands in.
+// The check of steps that a host names by thread, kind and domain, from a state that it passes in.
 ghost use mathlib.Core.Path.{_≡_};
 ghost use mathlib.Core.Bool.{cond};
 ghost use lib.Dec.{eqb};
@@ -16,7 +16,7 @@ use model::State;
 use model::TreeWords;
 use refusals::Refusal;
 
-// Before the steps it meets 4 to 9, 16 and 10, then 30.
+// The tests before the steps: 4 to 9, 16 and 10, then 30.
 fn early_refusal_of(
     tree: TreeWords,
     state: LockState,
@@ -55,7 +55,7 @@ fn place_of(number: u32, steps: usize) -> usize
     steps
 }
 
-// Named steps against those of the step table: the number that refuses the first wrong one and its position, how many steps are before it, and the state after those; accepted, the state after the last. Refused before the steps, the state as it came.
+// Compares named steps with those of the step table: the number that refuses the first wrong one and its position, how many steps come before it, and the state after those; if accepted, the state after the last. If refused before the steps, the state is unchanged.
 pub fn check_steps(
     tree: TreeWords,
     state: LockState,

@@ -1,4 +1,4 @@
--- THE BUFFERS after a call: each row at its place, nothing after them; and one call after another.
+-- THE BUFFERS after a call: each row is at its place, and the rest is unchanged; and consecutive calls.
 use mathlib.Core.Path.{_≡_, refl, sym, ap, _∙_}
 use mathlib.Core.List.{List, [], _∷_, _++_}
 use mathlib.Core.Logic.{_≢_}
@@ -24,7 +24,7 @@ use Rattle.kinds.specs.Answers.{rows-of, kinds-reply, refused-by, kinds-
 use Rattle.kinds.specs.Laws.{Kinds-refusal-law, Runs-as, Kinds-run-law, row-at, Row-law, Keeps-rest, Kinds-buffer-law, written, Calls-join, Kinds-join-law}
 use Rattle.kinds.proofs.Refusing.{early-passes, early-zero, kinds-refusal-law}
 
--- ROWS at their places
+-- ROWS and where they are in the buffer
 pub rows-long : (xs : List Step) → length (rows-of xs) ≡ 2 * length xs
 unfolding rows-of
 rows-long [] = refl
@@ -95,7 +95,7 @@ module _ (w : TreeWords) (s : LockState) (is b rs : List ℕ) where
             }
       ]
 
-  -- the run's part
+  -- if 28 does not refuse, refusal, reply and trace are the run's
   module _ (n : refused-by w s is b rs .number ≢ 28) where
     pub same-refusal : refused-by w s is b rs ≡ run-refusal t s is (length b)
     unfolding Kinds-refusal-law refusal refused-by

@@ -1,4 +1,4 @@
--- What refuses a run that tells its steps, in plain numbers.
+-- What refuses a run that reports its steps, in plain numbers.
 use mathlib.Core.Path.{_≡_, refl, sym, ap, _∙_}
 use mathlib.Core.List.{List, []}
 use mathlib.Core.Logic.{_≢_}
@@ -24,7 +24,7 @@ module _ (t : Tree) (s : LockState) (is : List ℕ) (room n : ℕ) where
   abbrev pub ran : List Test
   ran = run-tests-before-19 t s is room
 
-  -- what is refused before 19 is tested, by the run and by the run that tells its steps
+  -- what is refused before 19 is tested, by the run and by the run that reports its steps
   abbrev pub run-early : model.Refusal
   run-early = first-refusal ran
 
@@ -39,7 +39,7 @@ module _ (t : Tree) (s : LockState) (is : List ℕ) (room n : ℕ) where
   unfolding Refusal-law has-number tree-tests kinds-tests
   exactly = refusal-law (kinds-tests t s is room n) (numbered (kinds-tests t s is room n) refl)
 
-  -- BEFORE 19: the run's tests decide where one of them refuses, else the room for rows
+  -- BEFORE 19: the run's tests decide if one of them refuses, otherwise the length of the row buffer
   pub run-decides : run-early .number ≢ 0 → early ≡ run-early
   run-decides = first-decides ran (kind-room-tests is n)
 
@@ -55,7 +55,7 @@ module _ (t : Tree) (s : LockState) (is : List ℕ) (room n : ℕ) where
     unfolding bad-kind-room first-refusal
     rows-pass h = rows-decide ∙ single-missed _ [] refl (le-ltb (n / 2) (length is) (omega arith))
 
-  -- WITH 19: what refuses before it is the answer; where nothing does, 19 decides
+  -- WITH 19: what refuses before it is the answer; if nothing does, 19 decides
   pub early-decides : early .number ≢ 0 → kinds-refusal t s is room n ≡ early
   unfolding kinds-refusal kinds-tests
   early-decides = first-decides (kinds-tests-before-19 t s is room n) (counter-tests t s is)
@@ -64,7 +64,7 @@ module _ (t : Tree) (s : LockState) (is : List ℕ) (room n : ℕ) where
   unfolding kinds-refusal kinds-tests
   counters-decide = other-decides (kinds-tests-before-19 t s is room n) (counter-tests t s is) early-numbered
 
-  -- where nothing refuses before 19, neither the run's tests do nor the room for rows
+  -- if nothing refuses before 19, neither do the run's tests nor the length of the row buffer
   pub early-passes : early .number ≡ 0 → (run-early .number ≡ 0) × (2 * length is ≤ n)
   unfolding refusal
   early-passes e =

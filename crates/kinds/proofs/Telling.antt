@@ -1,4 +1,4 @@
--- A row is what single calls say: a run of the entries before it, then a step.
+-- A row is what single calls report: a run of the entries before it, then a step.
 use mathlib.Core.Path.{_≡_, refl, sym, ap, _∙_}
 use mathlib.Core.Bool.{true, false}
 use mathlib.Core.List.{List, [], _∷_, _++_}
@@ -29,7 +29,7 @@ use Rattle.kinds.specs.Answers.{refused-by}
 use Rattle.kinds.specs.Laws.{row-at, Row-law, Says-step, Single-step-law}
 use Rattle.kinds.proofs.Buffers.{same-refusal, row-law}
 
--- entries that are threads, the first of them and one of them
+-- if all entries are threads, so are the first ones, and each of them
 pub threads-taken : (t : Tree) (k : ℕ) (is : List ℕ) → All-threads t is → All-threads t (take k is)
 unfolding All-threads
 threads-taken t zero is all = tt
@@ -42,7 +42,7 @@ thread-there t [] all k h = absurd (omega arith)
 thread-there t (i ∷ is) all zero h = all .0
 thread-there t (i ∷ is) all (suc k) h = thread-there t is (all .1) k (omega arith)
 
--- an accepted run of all entries
+-- an accepted run of all entries, and one of its entries
 module _ (w : TreeWords) (s : LockState) (is b : List ℕ) (f : Formed (tree-of w) (s .words)) (e : run-refusal (tree-of w) s is (length b) .number ≡ 0) (k : ℕ) (h : k < length is) where
   abbrev t : Tree
   t = tree-of w
@@ -50,7 +50,7 @@ module _ (w : TreeWords) (s : LockState) (is b : List ℕ) (f : Formed (tree-of 
   abbrev i : ℕ
   i = getD is k 0
 
-  -- the entries before one, and the state after them
+  -- the entries before it, and the state after them
   abbrev js : List ℕ
   js = take k is
 
@@ -89,7 +89,7 @@ module _ (w : TreeWords) (s : LockState) (is b : List ℕ) (f : Formed (tree-of 
   unfolding run-answer run-reply
   numbered = rw (eq-eqb (run-refusal t s js (length b) .number) 0 before-zero)
 
-  -- 19 refuses the one step no more than it does the whole run
+  -- 19 does not refuse this step alone if it does not refuse the whole run
   one-low : Counts-pass t s′ (i ∷ [])
   unfolding bad-counter steps counters-after-run run run-of
   one-low p l =

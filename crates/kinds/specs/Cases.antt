@@ -1,3 +1,3 @@
--- Computed cases and witnesses: they pin the definitions, and nobody has to believe them.
+-- Computed cases and witnesses. They check the definitions; a reader does not have to trust them.
 pub mod Kinds
 pub mod Witnesses

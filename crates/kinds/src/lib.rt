@@ -1,8 +1,8 @@
-// What a run that tells its steps returns.
+// What a run that reports its steps returns.
 use model::Counts;
 use model::LockState;
 
-// What the run returns, and how many rows were written, one for each step. Number 0 is accepted.
+// What the run returns, and how many rows were written, one per step. Number 0 means accepted.
 #[repr(C)]
 pub struct KindsReply {
     pub number: u32,

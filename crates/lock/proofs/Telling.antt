@@ -1,4 +1,4 @@
--- What is told beside a run's state, from the run's answer.
+-- What is reported besides a run's state, from the run's answer.
 use mathlib.Core.Path.{_≡_}
 use mathlib.Core.List.{List}
 use Prim.Native.Nat.{ℕ}

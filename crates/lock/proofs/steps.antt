@@ -1,3 +1,4 @@
+-- Facts about the steps of a run.
 pub mod Taken
 pub mod SoFar
 pub mod Typing

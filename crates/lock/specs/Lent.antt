@@ -1,4 +1,4 @@
--- A run on lent arrays: the state that they are, and what is told beside it.
+-- A run on borrowed arrays: the state that they hold, and what it reports besides.
 use mathlib.Core.Bool.{cond}
 use mathlib.Core.List.{List}
 use Prim.Native.Nat.{ℕ, _/_, _%_}
@@ -15,17 +15,17 @@ use Rattle.rows.specs.Common.Standing.{row-domain}
 use Rattle.lock.specs.declared.lent.Told.{Told}
 use Rattle.lock.specs.declared.lent.Ran.{Ran}
 
--- a lock's state by the arrays that are lent
+-- a lock state with these borrowed arrays
 abbrev pub lent-lock : (tails nexts statuses rows domains peers words : List ℕ) → (ticket grant : ℕ) → (entries tenures longest : List ℕ) → LockState
 lent-lock ts ns vs rs ds ps ws v g es ms ls = lock-state (lent-state ts ns vs rs ds ps ws v g) (counters-in es ms ls)
 
--- kind and domain of a schedule's first step, by the number that tells what it was
+-- the kind and domain of a schedule's first step, decoded from its number
 abbrev pub reported-by : (homes schedule : List ℕ) → (code : ℕ) → Told
 reported-by hs is v =
     let none = eqb (length is) 0 in
     record { kind = cond none 0 (v % 8); domain = cond none 0 (row-domain (getD hs (getD is 0 0) 0) ((v / 8) % 16) (v / 128)) }
 
--- all of a run's answer but the state, with kind and domain of its first step
+-- a run's answer without the state, with the kind and domain of its first step
 unfoldable pub run-reported : RunReply → (taken : List Step) → Ran
 run-reported r xs =
     let accepted = eqb (r .number) 0 in

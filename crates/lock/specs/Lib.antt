@@ -1,3 +1,3 @@
--- What a step and a run on lent arrays tell.
+-- What a step and a run on borrowed arrays report.
 pub mod Lent
 pub mod Steps

@@ -1,3 +1,3 @@
--- What the functions after the calls say of the words that they read and store.
+-- What the functions inside the calls promise about the words that they read and store.
 pub mod Running
 pub mod Counting

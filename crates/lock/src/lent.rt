@@ -1,4 +1,4 @@
-// A run on the arrays that are lent: the tests, then the loop. A step is a run of one entry. Refused, every array as it came.
+// A run on borrowed arrays: the tests, then the loop. A step is a run of one entry. If refused, every array is unchanged.
 ghost use mathlib.Core.Path.{_≡_};
 ghost use Prim.Native.Nat.{_<_};
 ghost use lib.ListN.{length, getD};
@@ -17,13 +17,13 @@ use model::PlaceArrays;
 use model::State;
 use model::TreeWords;
 
-// The kind of a step and the domain that it was at.
+// The kind and domain of a step.
 struct Told {
     pub kind: u32,
     pub domain: u32,
 }
 
-// The first step of a schedule, by what the loop told of it; 0 and 0 where there is none.
+// The first step of a schedule, decoded from what the loop reported; 0 and 0 if there is none.
 fn first_reported(homes: &[u8; 256], schedule: &[u16], code: u16) -> Told
     requires { ⌜ (0 < length (now schedule) → getD (now schedule) 0 0 < 256) ⌝ }
     ensures { λ r. ⌜ r ≡ reported-by (now (homes .entry)) (now (schedule .entry)) code ⌝ }
@@ -39,7 +39,7 @@ fn first_reported(homes: &[u8; 256], schedule: &[u16], code: u16) -> Told
     }
 }
 
-// Number and place of a run's answer, kind and domain of its first step, and its counts; refused, and where there is no step, these are 0.
+// Number and place of a run's answer, kind and domain of its first step, and its counts; kind, domain and counts are 0 if it is refused or has no step.
 pub(crate) struct Ran {
     pub number: u32,
     pub place: u32,
@@ -135,7 +135,7 @@ pub(crate) fn run_tested(
     }
 }
 
-// The state of a lock, from its arrays. The last row and the first counter are read for the compiler alone: it takes a struct apart around a number that is read by itself, and then copies fewer bytes, since the arrays do not go whole from each struct into the next; tests/bench counts them.
+// The state of a lock, from its arrays. The last row and the first counter are read only for the compiler: it splits a struct around a number that is read on its own, and then copies fewer bytes, since the arrays are not copied whole from one struct to the next; tests/bench counts them.
 pub(crate) fn lock_of<'s>(
     tails: &'s [u16; 64],
     nexts: &'s [u16; 320],

@@ -15,7 +15,7 @@ use model::RunReply;
 use model::StepReply;
 use model::TreeWords;
 
-// The number at which the counters of a ticket lock start: the one given at a ticket root that is not refused.
+// The number at which the counters of a ticket lock start: the given one at a ticket root that is not refused, else 0.
 fn first_of(number: u32, ticket_root: u32, start: u16) -> u16
     ensures { λ r. ⌜ r ≡ first-number number «ticket_root» start ⌝ }
 {
@@ -28,7 +28,7 @@ fn first_of(number: u32, ticket_root: u32, start: u16) -> u16
     start
 }
 
-// Counters that are 0 throughout.
+// Counters that are all 0.
 fn fresh_counters() -> Counters
     ensures { λ r. ⌜ r ≡ fresh-counters ⌝ }
 {
@@ -42,7 +42,7 @@ fn fresh_counters() -> Counters
     }
 }
 
-// A fresh lock: a fresh state, accepted or refused.
+// A fresh lock: a fresh state, whether accepted or refused.
 pub fn fresh_lock(tree: TreeWords, start: u16) -> FreshReply
     ensures { λ r. ⌜ r ≡ fresh-answer tree start ⌝ }
 {
@@ -64,7 +64,7 @@ pub fn fresh_lock(tree: TreeWords, start: u16) -> FreshReply
     }
 }
 
-// One step of a thread: its kind, the domain it was at and the state after it; refused, kind 0, domain 0 and the state as it came.
+// One step of a thread: its kind, its domain and the state after it; if refused, kind 0, domain 0 and the state unchanged.
 pub fn step_lock(tree: TreeWords, state: LockState, thread: u16) -> StepReply
     ensures { λ r. ⌜ r ≡ step-answer tree state thread ⌝ }
 {
@@ -122,7 +122,7 @@ pub fn step_lock(tree: TreeWords, state: LockState, thread: u16) -> StepReply
     }
 }
 
-// The steps of a schedule: the state after the last of them and the counts, the entering threads at the front of the trace; refused, the state and the trace as they came.
+// The steps of a schedule: the state after the last step and the counts, with the entering threads at the front of the trace; if refused, state and trace are unchanged.
 pub fn run_lock(tree: TreeWords, state: LockState, schedule: &[u16], trace: &mut [u16]) -> RunReply
     ensures { λ r. ⌜ r ≡ run-answer tree state (now (schedule .entry)) (now (trace .entry)) ⌝ }
     ensures { λ r. ⌜ now (trace .exit) ≡ trace-answer tree state (now (schedule .entry)) (now (trace .entry)) ⌝ }

@@ -1,4 +1,4 @@
-// The steps of a run: its loop, and 19. An inner crate: the calls on a lock stand on it, and have made the tests that it asks for.
+// The steps of a run: its loop, and 19. The calls on a lock use it and have made the tests that it requires.
 ghost use mathlib.Core.Path.{_≡_};
 ghost use Rattle.model.specs.Refusals.{refusal};
 ghost use Rattle.model.specs.Answers.{run-refused};
@@ -13,7 +13,7 @@ use model::PlaceArrays;
 use model::RunReply;
 use model::State;
 
-// The state of a fresh lock, by the number at which its counters start.
+// The state of a fresh lock whose ticket counters start at this number.
 pub fn fresh_state(first: u16) -> State
     ensures { λ r. ⌜ r ≡ fresh-from first ⌝ }
 {
@@ -40,7 +40,7 @@ pub fn fresh_state(first: u16) -> State
     }
 }
 
-// A refused run: number, place, zero counts and the state as it came.
+// The reply to a refused run: number, place, all counts 0 and the state unchanged.
 pub fn refused(number: u32, place: u32, state: LockState) -> RunReply
     ensures { λ r. ⌜ r ≡ run-refused (refusal number place) state ⌝ }
 {

@@ -86,7 +86,7 @@ fn uncounted(words: State) -> LockState {
     LockState { words, counters }
 }
 
-// Number, place and counts of a run, and the first two elements of its trace buffer.
+// The number, place and counts of a run, and the first two elements of its trace buffer.
 fn show(r: RunReply, first: u16, second: u16) {
     number(r.number);
     number(r.place);
@@ -104,7 +104,7 @@ fn show(r: RunReply, first: u16, second: u16) {
     put(b"\n");
 }
 
-// A trace buffer of the schedule's length passes, one less is 13; what is refused leaves the buffer alone.
+// A trace buffer as long as the schedule passes, one element less gives 13; a refused run leaves the buffer unchanged.
 fn trace_room() {
     let tree = two_threads(2);
     let schedule = [0u16, 0, 0, 0];
@@ -136,7 +136,7 @@ fn late_entry() {
     put(b"\n");
 }
 
-// Three more turns of a thread that nobody has granted are three stays.
+// Three more turns of a thread in Wait without a grant are three stays.
 fn three_stays() {
     let tree = two_threads(2);
     let schedule = [0u16, 0, 0, 0, 1, 1, 1, 1, 1, 1];
@@ -155,7 +155,7 @@ fn largest_threshold() {
     put(b"\n");
 }
 
-// Entries of four threads, many times over.
+// Schedule entries of four threads, repeated many times.
 fn order() -> [u16; 4000] {
     let mut schedule = [0u16; 4000];
     for k in 0..4000 {
@@ -164,7 +164,7 @@ fn order() -> [u16; 4000] {
     schedule
 }
 
-// All threads in turn, many times over: passed entries with thresholds of 2, none with thresholds of 1.
+// All threads in turn, many times: passed entries with thresholds of 2, none with thresholds of 1.
 fn turns(threshold: u16) {
     let tree = four_threads(threshold);
     let schedule = order();
@@ -173,7 +173,7 @@ fn turns(threshold: u16) {
     show(r, trace[0], trace[1]);
 }
 
-// The same at a ticket root, whose counters start at their largest number.
+// The same at a ticket root whose counters start at their largest number.
 fn ticket_turns() {
     let mut tree = four_threads(2);
     tree.ticket_root = 1;
@@ -212,7 +212,7 @@ fn step_line(tree: TreeWords, words: State, thread: u16) {
     put(b"\n");
 }
 
-// All threads Idle but the first.
+// All threads are Idle except the first.
 fn first_at(row: u8, domain: u8, peer: u16, word: u64) -> PlaceArrays {
     let mut rows = [0u8; 256];
     let mut domains = [0u8; 256];
@@ -230,7 +230,7 @@ fn first_at(row: u8, domain: u8, peer: u16, word: u64) -> PlaceArrays {
     }
 }
 
-// States that a caller hands over and that no schedule reaches.
+// States that a caller may pass in but no schedule reaches.
 fn handed_in() {
     let tree = two_threads(2);
     let mut above = fresh_words(tree);

@@ -1,4 +1,4 @@
--- A file that reading accepts: how far each part came.
+-- A file that reading accepts: where each part ends.
 use mathlib.Core.Path.{_≡_, refl}
 use mathlib.Core.Bool.{Bool, true, false, cond}
 use mathlib.Core.List.{List}
@@ -29,7 +29,7 @@ reading-accepted bs (At at) v w is e = record { at = at; reached = refl; same-tr
 reading-accepted bs Ended v w is e = absurd (let z : _≡_ {A = ℕ} 0 1 = cc in omega arith)
 reading-accepted bs (BadMap p) v w is e = absurd (let z : _≡_ {A = ℕ} 0 1 = cc in omega arith)
 
--- the schedule starts at a position: the threads ended there, and the rest is even
+-- if the schedule starts at a position, the threads end there and the number of bytes left is even
 pub schedule-started :
     (bs : List ℕ) (r : Reached) (at : ℕ) → schedule-start bs r ≡ At at → (r ≡ At at) × ((length bs - at) % 2 ≡ 0)
 unfolding schedule-start
@@ -41,7 +41,7 @@ schedule-started bs (At s) at e = by (eqb ((length bs - s) % 2) 0) refl e
 schedule-started bs Ended at e = absurd (let z : _≡_ {A = ℕ} 0 1 = cc in omega arith)
 schedule-started bs (BadMap p) at e = absurd (let z : _≡_ {A = ℕ} 0 1 = cc in omega arith)
 
--- the threads ended at a position: the domains did, and T stands there
+-- if the threads end at a position, so do the domains, and T is there
 pub record Threads-started (bs : List ℕ) (r : Reached) (t : ThreadsRead) : Type 0 where
   pub at : ℕ
   pub domains-ended : r ≡ At at
@@ -67,7 +67,7 @@ threads-started bs (At q) next e =
 threads-started bs Ended next e = absurd (let z : _≡_ {A = ℕ} 0 1 = cc in omega arith)
 threads-started bs (BadMap p) next e = absurd (let z : _≡_ {A = ℕ} 0 1 = cc in omega arith)
 
--- the domains ended at a position: D stands there
+-- if the domains end at a position, D is there
 pub domains-started :
     (bs : List ℕ) (next : ℕ) → domains-read bs .reached ≡ At next →
     (length bs ≢ 0) × (domains-read bs ≡ domains-from bs (domain-count bs - 1) 1 1 (replicate 64 0) (replicate 64 0))

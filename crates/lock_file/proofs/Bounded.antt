@@ -1,4 +1,4 @@
--- What reading a file without running it comes to, case by case, and how much room its schedule takes.
+-- The result of reading a file without running it, case by case, and how many elements its schedule needs.
 use mathlib.Core.Path.{_≡_, refl, sym, _∙_, ap}
 use mathlib.Core.Bool.{Bool, true, false}
 use mathlib.Core.List.{List}

@@ -1,4 +1,4 @@
--- The bytes of a file from a position on: the next byte, and what stands after it.
+-- The bytes of a file from a position on: the next byte, and what follows it.
 use mathlib.Core.Path.{_≡_, sym, _∙_, ap}
 use mathlib.Core.List.{List, _∷_}
 use Prim.Native.Nat.{ℕ, _+_, _-_, _≤_, _<_}
@@ -14,7 +14,7 @@ use Rattle.lock_file.specs.Reading.{byte, field-end, entry-end}
 pub next-byte : (bs : List ℕ) (at : ℕ) → at < length bs → drop at bs ≡ byte bs at ∷ drop (at + 1) bs
 next-byte bs at h = rw add-one (drop-cons bs at 0 h)
 
--- what is known of a file whose bytes from a position on start with one
+-- what is known about a file whose bytes from a position on start with a given byte
 pub record Starts (bs : List ℕ) (at x : ℕ) (ys : List ℕ) : Type 0 where
   pub first : byte bs at ≡ x
   pub behind : drop (at + 1) bs ≡ ys
@@ -27,7 +27,7 @@ starts bs at x ys e =
     let behind : drop (at + 1) bs ≡ ys = cc in
     record { first = cc; behind = behind; long = omega (arith, length-drop (at + 1) bs, ap length behind) }
 
--- a field, and an entry with a map that has a meaning, end where their size says
+-- a field, and an entry whose map has a meaning, end after their size
 pub field-reached : (bs : List ℕ) (at size : ℕ) → at + size ≤ length bs → field-end bs at size ≡ At (at + size)
 unfolding field-end
 field-reached bs at size h = let enough : size ≤ length bs - at = omega arith in rw (le-ltb (length bs - at) size enough)

@@ -1,4 +1,4 @@
--- The domains' entries: what reading them stores, and that it reads exactly the entries that stand there.
+-- The domains' entries: what reading them stores, and that it reads exactly the entries that are there.
 use mathlib.Core.Path.{_≡_, refl, sym, _∙_, ap}
 use mathlib.Core.List.{List, [], _++_, append-assoc}
 use mathlib.Core.Logic.{inl}
@@ -15,7 +15,7 @@ use Rattle.lock_file.proofs.Positions.{reached-cases, domain-then, doma
 use Rattle.lock_file.proofs.Stored.{stored-length, stored-here, stored-other, Outside, outside-next, outside-apart}
 use Rattle.lock_file.proofs.DomainEntry.{domain-bytes, domain-fields}
 
--- reading keeps the room
+-- reading keeps the lengths of the arrays
 pub domains-room :
     (bs : List ℕ) (k d at : ℕ) (ps hs : List ℕ) →
     (length (domains-from bs k d at ps hs .parents) ≡ length ps) × (length (domains-from bs k d at ps hs .thresholds) ≡ length hs)
@@ -30,7 +30,7 @@ domains-room bs (suc k) d at ps hs =
     (λ e. rw (domain-ended bs k d at ps hs e) (refl, refl))
     (λ p e. rw (domain-bad bs k d at ps hs p e) (refl, refl))
 
--- the words of other domains stay
+-- the words of other domains are unchanged
 pub domains-kept :
     (bs : List ℕ) (k d at : ℕ) (ps hs : List ℕ) (j : ℕ) → Outside j d k →
     (getD (domains-from bs k d at ps hs .parents) j 0 ≡ getD ps j 0) × (getD (domains-from bs k d at ps hs .thresholds) j 0 ≡ getD hs j 0)
@@ -45,7 +45,7 @@ domains-kept bs (suc k) d at ps hs j o =
     (λ e. rw (domain-ended bs k d at ps hs e) (refl, refl))
     (λ p e. rw (domain-bad bs k d at ps hs p e) (refl, refl))
 
--- entries that were read: their bytes, up to the position reached
+-- entries that were read, with their bytes up to the position reached
 pub record Domains-at (bs : List ℕ) (d k at next : ℕ) (ps hs : List ℕ) : Type 0 where
   pub bytes : List ℕ
   pub entries : Domain-entries ps hs d k bytes
@@ -84,7 +84,7 @@ domains-bytes bs (suc k) d at next ps hs a b e =
     (λ g. let bad : Ended ≡ At next = rw (domain-ended bs k d at ps hs g) at e in absurd (let z : _≡_ {A = ℕ} 0 1 = cc in omega arith))
     (λ p g. let bad : BadMap p ≡ At next = rw (domain-bad bs k d at ps hs p g) at e in absurd (let z : _≡_ {A = ℕ} 0 1 = cc in omega arith))
 
--- the other way: entries that stand at a position are read, and their words stored
+-- conversely, entries at a position are read, and their words stored
 pub record Domains-read (bs : List ℕ) (d k at : ℕ) (r : DomainsRead) (given-ps given-hs bytes rest : List ℕ) : Type 0 where
   pub reached : r .reached ≡ At (at + length bytes)
   pub behind : drop (at + length bytes) bs ≡ rest

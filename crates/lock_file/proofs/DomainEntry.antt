@@ -1,4 +1,4 @@
--- One domain's entry: reading it at a position, and its bytes standing there, are the same.
+-- One domain's entry: reading it at a position succeeds exactly if its bytes are there.
 use mathlib.Core.Path.{_≡_, refl}
 use mathlib.Core.List.{List, [], _∷_, _++_}
 use Prim.Native.Nat.{ℕ, zero, suc, _+_, _≤_}
@@ -64,7 +64,7 @@ domain-bytes bs at next e =
     let w = domain-within bs at next e in
     domain-map bs at next (byte bs at) refl (w .meaningful) (w .reaches) (w .within)
 
--- the other way: an entry's bytes at a position are read as its fields, and reading goes on after them
+-- conversely, an entry's bytes at a position are read as its fields, and reading continues after them
 pub record Domain-read (bs : List ℕ) (at p h : ℕ) (bytes rest : List ℕ) : Type 0 where
   pub reached : domain-end bs at ≡ At (at + length bytes)
   pub parent : parent-at bs at ≡ p

@@ -1,4 +1,4 @@
--- The schedule's entries at the front of a buffer that has room for them, or the buffer as it came.
+-- The schedule entries at the front of a buffer that is long enough; otherwise the buffer is unchanged.
 use mathlib.Core.Path.{_≡_}
 use mathlib.Core.List.{List}
 use Prim.Native.Nat.{ℕ, _-_, _/_, _≤_, _<_}
@@ -10,7 +10,7 @@ use Rattle.lock_file.specs.Reading.{entries-from, entries-at, filled}
 use Rattle.lock_file.proofs.Positions.{entries-length}
 use Rattle.model.proofs.Storing.{sets-front}
 
--- no entries after the file
+-- there are no entries after the end of the file
 pub none-filled : (bs : List ℕ) (at : ℕ) (l : List ℕ) → length bs ≤ at → filled (entries-at bs at) l ≡ l
 unfolding filled entries-at entries-from
 none-filled bs at l h =

@@ -39,7 +39,7 @@ tree-words bs q =
       «ticket_root» = root-number bs;
     }
 
--- a domain without an entry: the root, or one that the tree lacks
+-- a domain without an entry: the root, or an unused slot
 no-entry : (D d : ℕ) → (d ≡ 0) ⊎ (D ≤ d) → (d < 1) ⊎ (1 + (D - 1) ≤ d)
 no-entry D d (inl e) = inl (omega arith)
 no-entry D d (inr h) = elim (ℕ-discrete d 0) [ yes z ↦ inl (omega arith) | no z ↦ inr (omega arith) ]
@@ -88,7 +88,7 @@ read-describes bs q s h d w t e =
       room = read-room bs q;
     }
 
--- the tree that is read, where the domains end at a position and T stands there
+-- the tree that is read, if the domains end at a position and T is there
 tree-read-is :
     (bs : List ℕ) (q : ℕ) → domains-read bs ≡ domains-of bs → domains-of bs .reached ≡ At q → threads-read bs (At q) ≡ threads-of bs q →
     tree-read bs ≡ record { reached = schedule-start bs (threads-of bs q .reached); tree = tree-words bs q }
@@ -115,7 +115,7 @@ accepted-describes bs w is e =
     let d = domains-started bs (t .at) (t .domains-ended) in
     accepted-parts bs w is (t .at) (a .at) (d .1) (t .domains-ended) (t .read) (d .0) (t .within) (s .0) (s .1) (a .same-tree) (a .entries)
 
--- the words that are read are those described
+-- the words that are read are the ones described
 domains-same :
     (bs : List ℕ) (w : TreeWords) (xs rest : List ℕ) → domain-count bs ≡ w .domains → Full-room w →
     Domains-read bs 1 (domain-count bs - 1) 1 (domains-of bs) (w .parents) (w .thresholds) xs rest →
@@ -152,7 +152,7 @@ threads-same bs q w xs rest e room r =
     unread j (inl h) = absurd (omega arith)
     unread j (inr h) = omega arith
 
--- how far reading comes in a file that describes a tree
+-- how far reading comes in a file that describes a tree and a schedule
 record Read-through (bs : List ℕ) (w : TreeWords) (is : List ℕ) : Type 0 where
   at : ℕ
   start : ℕ

@@ -1,3 +1,4 @@
+-- The proofs of the laws and of the computed cases, and what they use.
 pub mod Cases
 pub mod Positions
 pub mod Within

@@ -1,4 +1,4 @@
--- Parts of a lock file, read from left to right: bytes after the position reached are not looked at, and a part that ends too early is completed by bytes 0.
+-- Parts of a lock file, read from left to right: bytes after the position reached are not looked at, and a part that ends too early can be completed with bytes 0.
 use mathlib.Core.Path.{_≡_, refl, sym, _∙_}
 use mathlib.Core.Bool.{Bool, true, false, cond}
 use mathlib.Core.List.{List}
@@ -13,26 +13,26 @@ use Rattle.lock_file.specs.Reading.{byte, field-end, entry-end}
 use Rattle.lock_file.proofs.Positions.{field-within, entry-within, reached-cases}
 use Rattle.lock_file.proofs.Bytes.{field-reached, entry-reached}
 
--- reading a part of a file that starts at a position
+-- a reader of a part of a file that starts at a position
 abbrev pub Part-reader : Type 0
 Part-reader = (bytes : List ℕ) → (at : ℕ) → Reached
 
--- the same bytes before a position
+-- two files have the same bytes before a position
 abbrev pub Same-before : (end : ℕ) → (bs cs : List ℕ) → Type 0
 Same-before n bs cs = (j : ℕ) → j < n → byte bs j ≡ byte cs j
 
--- a part that ends at a position: what stands after it does not matter
+-- a part that ends at a position: what follows it does not matter
 pub record Part-reached (read : Part-reader) (bs : List ℕ) (at next : ℕ) : Type 0 where
   pub ahead : at ≤ next
   pub alike : (cs : List ℕ) → Same-before next bs cs → next ≤ length cs → read cs at ≡ At next
 
--- a bit map without a meaning: what stands after it does not matter
+-- a bit map without a meaning is found: what follows it does not matter
 pub record Part-bad (read : Part-reader) (bs : List ℕ) (at place : ℕ) : Type 0 where
   pub ahead : at ≤ place
   pub inside : place < length bs
   pub alike : (cs : List ℕ) → Same-before (place + 1) bs cs → place < length cs → read cs at ≡ BadMap place
 
--- a part that is cut short ends well in every file that has bytes 0 behind, far enough
+-- a part that is cut short is complete in every file with enough bytes 0 after it
 pub record Part-ended (read : Part-reader) (bs : List ℕ) (at : ℕ) : Type 0 where
   pub end : ℕ
   pub ahead : at ≤ end
@@ -44,7 +44,7 @@ pub record Part (read : Part-reader) : Type 0 where
   pub bad : (bs : List ℕ) (at place : ℕ) → read bs at ≡ BadMap place → Part-bad read bs at place
   pub ended : (bs : List ℕ) (at : ℕ) → read bs at ≡ Ended → Part-ended read bs at
 
--- reading goes on from a position reached
+-- reading continues from the position reached
 unfoldable pub onward : Reached → (ℕ → Reached) → Reached
 onward (At next) f = f next
 onward Ended f = Ended
@@ -59,7 +59,7 @@ not-bad p next e = let z : _≡_ {A = ℕ} 0 1 = cc in omega arith
 bad-not-ended : (p : ℕ) → BadMap p ≡ Ended → ⊥
 bad-not-ended p e = let z : _≡_ {A = ℕ} 0 1 = cc in omega arith
 
--- one part after another, read by a value that the bytes of the first give
+-- one part after another; a value in the bytes of the first part determines how the second is read
 module _
     (first : Part-reader) (value : (bytes : List ℕ) → (at : ℕ) → ℕ) (second : (value : ℕ) → Part-reader) (first-part : Part first)
     (second-part : (v : ℕ) → Part (second v))
@@ -80,7 +80,7 @@ module _
     unfolding onward
     both-bad bs at place e = rw e
 
-    -- the second part in another file, after the same first part
+    -- the second part in another file with the same first part
     second-in :
         (bs cs : List ℕ) (at next : ℕ) (r : Reached) → first cs at ≡ At next → value bs at ≡ value cs at →
         second (value bs at) cs next ≡ r → both cs at ≡ r
@@ -132,7 +132,7 @@ module _
               second-in bs cs at middle (At (b .end)) (a .alike cs before (omega arith)) (given bs cs at middle e before) (b .filled cs same long);
         }
 
-    -- the first part is cut short: after the bytes 0 that complete it the second finds bytes 0 only
+    -- the first part is cut short: after the bytes 0 that complete it, the second finds only bytes 0
     ended-first : (bs : List ℕ) (at : ℕ) → first bs at ≡ Ended → Part-ended both bs at
     ended-first bs at e =
         let a = first-part .ended bs at e in
@@ -207,7 +207,7 @@ field-not-bad bs at size place e = by (ltb (length bs - at) size) e
     by true q = bad-not-ended place (sym q)
     by false q = not-bad place (at + size) (sym q)
 
--- a field is cut short where the file ends before it does
+-- a field is cut short if the file ends inside it
 field-short : (bs : List ℕ) (at size : ℕ) → field-end bs at size ≡ Ended → length bs ≤ at + size
 unfolding field-end
 field-short bs at size e = by (ltb (length bs - at) size) refl e
@@ -234,7 +234,7 @@ field-part size positive =
           };
     }
 
--- an entry's bit map without a meaning, and an entry that is cut short
+-- an entry whose bit map has no meaning, and an entry that is cut short
 record Map-bad (bs : List ℕ) (largest at place : ℕ) : Type 0 where
   here : at ≡ place
   inside : at < length bs
@@ -274,12 +274,12 @@ entry-short bs largest at size e = by (leb (length bs) at) (ltb largest (byte bs
     by false true t u e = absurd (bad-not-ended at e)
     by false false t u e = record { meaningful = ltb-false largest (byte bs at) u; behind = field-short bs at size e }
 
--- an entry whose size its bit map says
+-- an entry whose size its bit map gives
 module _ (largest : ℕ) (size : (map : ℕ) → ℕ) (positive : (map : ℕ) → 0 < size map) where
   abbrev pub entry-reader : Part-reader
   entry-reader bs at = entry-end bs largest at (size (byte bs at))
 
-  -- the same bit map in another file
+  -- an entry with the same bit map in another file
   entry-alike :
       (bs cs : List ℕ) (at : ℕ) → byte bs at ≡ byte cs at → byte bs at ≤ largest → at + size (byte bs at) ≤ length cs →
       entry-reader cs at ≡ At (at + size (byte bs at))
@@ -317,7 +317,7 @@ module _ (largest : ℕ) (size : (map : ℕ) → ℕ) (positive : (map : ℕ) �
             };
       }
 
-  -- as many entries as are left
+  -- a given number of entries
   unfoldable pub entries-reader : (left : ℕ) → Part-reader
   entries-reader zero bs at = At at
   entries-reader (suc k) bs at = onward (entry-reader bs at) (entries-reader k bs)
@@ -333,7 +333,7 @@ module _ (largest : ℕ) (size : (map : ℕ) → ℕ) (positive : (map : ℕ) �
   entries-part (suc k) =
       both-part entry-reader (λ bs at. 0) (λ v. entries-reader k) entry-part (λ v. entries-part k) (λ bs cs at next e same. refl)
 
-  -- a field that says how many entries stand after it
+  -- a field that gives the number of entries after it
   module _
       (width : ℕ) (some : 0 < width) (count : (bytes : List ℕ) → (at : ℕ) → ℕ)
       (counted : (bs cs : List ℕ) (at : ℕ) → Same-before (at + width) bs cs → count bs at ≡ count cs at)

@@ -1,4 +1,4 @@
--- Reading, one entry at a time: what is known where an entry ends, and the next entry.
+-- Reading one entry at a time: what is known at the end of an entry, and the next entry.
 use mathlib.Core.Path.{_≡_, refl}
 use mathlib.Core.Bool.{Bool, true, false, cond}
 use mathlib.Core.List.{List}
@@ -13,7 +13,7 @@ use Rattle.lock_file.specs.declared.Reached.{Reached}
 use Rattle.lock_file.specs.declared.Reached.the-variants.{At, Ended, BadMap}
 use Rattle.lock_file.specs.Reading.{byte, field-end, entry-end, domain-size, domain-end, parent-at, threshold-at, stored, domains-at, domains-from, thread-end, home-at, threads-at, threads-from, two-bytes, entries-from}
 
--- a field or an entry that ends at a position lies within the file
+-- a field or an entry that ends at a position is within the file
 pub field-within :
     (bs : List ℕ) (at size next : ℕ) → 0 < size → field-end bs at size ≡ At next → (at + size ≡ next) × (next ≤ length bs)
 unfolding field-end
@@ -23,7 +23,7 @@ field-within bs at size next h e = by (ltb (length bs - at) size) refl e
     by true p q = absurd (let z : _≡_ {A = ℕ} 0 1 = cc in omega arith)
     by false p q = let same : at + size ≡ next = cc in (same, omega (arith, ltb-false (length bs - at) size p))
 
--- an entry that ends at a position: its map has a meaning
+-- if an entry ends at a position, its map has a meaning
 pub record Entry-within (bs : List ℕ) (largest at size next : ℕ) : Type 0 where
   pub inside : at < length bs
   pub meaningful : byte bs at ≤ largest
@@ -149,7 +149,7 @@ module _ (bs : List ℕ) (T i before at : ℕ) (hs : List ℕ) where
       let z : T - i ≡ suc (T - (i + 1)) = omega arith in
       rw z (thread-bad bs (T - (i + 1)) i before at hs p e)
 
--- the schedule's entries from the k-th on, stored one after another
+-- the schedule entries from the k-th on, stored in order
 module _ (bs : List ℕ) (n k at : ℕ) (l : List ℕ) where
   pub schedule-next :
       k < n →
@@ -161,7 +161,7 @@ module _ (bs : List ℕ) (n k at : ℕ) (l : List ℕ) where
   unfolding entries-from
   schedule-over h = let z : n - k ≡ 0 = omega arith in rw z
 
--- as many entries as were left
+-- there are as many entries as were left
 pub entries-length : (bs : List ℕ) (k at : ℕ) → length (entries-from bs k at) ≡ k
 unfolding entries-from
 entries-length bs zero at = refl

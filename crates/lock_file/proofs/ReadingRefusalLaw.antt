@@ -1,4 +1,4 @@
--- REFUSALS OF READING: 2 exactly if the file only ends too early, 3 exactly at the first byte with which the bytes so far begin no lock file.
+-- REFUSALS OF READING: 2 exactly if the file only ends too early, 3 exactly at the first byte where the bytes so far are not the beginning of a lock file.
 use mathlib.Core.Path.{_≡_, refl, sym, _∙_, ap}
 use mathlib.Core.Bool.{Bool, true, false, cond}
 use mathlib.Core.List.{List, [], _∷_, _++_, append-nil}
@@ -27,7 +27,7 @@ use Rattle.lock_file.proofs.TreeParts.{tree-reader, tree-part, tree-rea
 abbrev reached-in : (bytes : List ℕ) → Reached
 reached-in bs = tree-read bs .reached
 
--- WHAT READING COMES TO
+-- THE RESULT OF READING
 read-at : (bs : List ℕ) (at : ℕ) → reached-in bs ≡ At at → file-read bs ≡ described (tree-read bs .tree) (entries-at bs at)
 unfolding file-read reading-of
 read-at bs at e = rw e
@@ -40,7 +40,7 @@ read-bad : (bs : List ℕ) (p : ℕ) → reached-in bs ≡ BadMap p → file-rea
 unfolding file-read reading-of reached-refusal
 read-bad bs p e = rw e
 
--- reading reaches the schedule exactly in a lock file
+-- reading reaches the schedule exactly in the lock files
 lock-file-at : (bs : List ℕ) (at : ℕ) → reached-in bs ≡ At at → Lock-file bs
 unfolding Format-law
 lock-file-at bs at e =
@@ -58,7 +58,7 @@ not-lock-file bs none l =
     in
     none (a .at) (a .reached)
 
--- THE SCHEDULE BEHIND THE TREE
+-- THE SCHEDULE AFTER THE TREE
 start-ended : (bs : List ℕ) (at : ℕ) → schedule-start bs (At at) ≡ Ended → (length bs - at) % 2 ≢ 0
 unfolding schedule-start
 start-ended bs at e = by (eqb ((length bs - at) % 2) 0) refl e
@@ -91,7 +91,7 @@ tree-bad bs p e =
     (λ g. absurd (let z : Ended ≡ BadMap p = rw g at f in let y : _≡_ {A = ℕ} 0 1 = cc in omega arith))
     (λ q g. let z : BadMap q ≡ BadMap p = rw g at f in g ∙ z)
 
--- A BIT MAP WITHOUT A MEANING lies in the file, and is found in every file with the same bytes up to it
+-- A BIT MAP WITHOUT A MEANING is in the file, and is found in every file with the same bytes up to it
 bad-inside : (bs : List ℕ) (p : ℕ) → reached-in bs ≡ BadMap p → p < length bs
 bad-inside bs p e = tree-part .bad bs 0 p (tree-bad bs p e) .inside
 
@@ -128,7 +128,7 @@ filled-beginning bs n at e =
 whole-beginning : (bs : List ℕ) (at : ℕ) → reached-in bs ≡ At at → Beginning bs
 whole-beginning bs at e = filled-beginning bs 0 at (rw append-nil e)
 
--- an odd rest takes one byte more
+-- if the number of bytes left is odd, one more byte is needed
 odd-beginning : (bs : List ℕ) (at : ℕ) → tree-reader bs 0 ≡ At at → (length bs - at) % 2 ≢ 0 → Beginning bs
 odd-beginning bs at e odd =
     let cs = bs ++ replicate 1 0 in
@@ -138,7 +138,7 @@ odd-beginning bs at e odd =
     let here = tree-part .reached bs 0 at e .alike cs same (omega arith) in
     filled-beginning bs 1 at (reached-even cs at here (omega arith))
 
--- a tree that is cut short takes as many as it is short of
+-- a tree that is cut short needs as many bytes as are missing
 short-beginning : (bs : List ℕ) → tree-reader bs 0 ≡ Ended → Beginning bs
 short-beginning bs e =
     let a = tree-part .ended bs 0 e in
@@ -169,14 +169,14 @@ begins-or-bad bs =
 take-same : (bs : List ℕ) (n end : ℕ) → end ≤ n → Same-before end (take n bs) bs
 take-same bs n end h j l = getD-take n bs j 0 (omega arith)
 
--- the first bytes have a bit map without a meaning: so has the file
+-- if the first bytes have a bit map without a meaning, so has the file
 bad-of-first : (bs : List ℕ) (n p : ℕ) → n ≤ length bs → reached-in (take n bs) ≡ BadMap p → (p < n) × (reached-in bs ≡ BadMap p)
 bad-of-first bs n p h e =
     let long = length-take-le n bs h in
     let inside : p < n = omega (arith, bad-inside (take n bs) p e) in
     (inside, bad-alike (take n bs) bs p e (take-same bs n (p + 1) (omega arith)) (omega arith))
 
--- the other way: the first bytes up to it have it too
+-- conversely, all first bytes that include it have it too
 first-of-bad : (bs : List ℕ) (n p : ℕ) → n ≤ length bs → p < n → reached-in bs ≡ BadMap p → reached-in (take n bs) ≡ BadMap p
 first-of-bad bs n p h l e =
     let long = length-take-le n bs h in
@@ -232,7 +232,7 @@ ended-exactly bs = (there, back)
     back x =
         reached-cases (reached-in bs) (λ at e. absurd (x .0 (lock-file-at bs at e))) (λ e. e) (λ p e. absurd (bad-no-beginning bs p e (x .1)))
 
--- THE REFUSALS: their number says how reading went
+-- THE REFUSALS: their numbers show how far reading came
 same-refusal : (n p m q : ℕ) → refused (refusal n p) ≡ refused (refusal m q) → (n ≡ m) × (p ≡ q)
 unfolding refusal
 same-refusal n p m q e =

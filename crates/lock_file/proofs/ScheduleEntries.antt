@@ -1,4 +1,4 @@
--- The schedule's entries: reading them, and their bytes standing there, are the same.
+-- The schedule entries: reading them succeeds exactly if their bytes are there.
 use mathlib.Core.Path.{_≡_, refl, ap}
 use mathlib.Core.List.{List, _∷_}
 use Prim.Native.Nat.{ℕ, zero, suc, _+_, _*_, _-_, _/_, _%_, _≤_}
@@ -17,13 +17,13 @@ entries-bytes bs (suc k) at h =
     rw (next-byte bs at (omega arith), next-byte bs (at + 1) (omega arith), z)
     (next-entry (byte bs at) (byte bs (at + 1)) (entries-from bs k (at + 2)) (drop (at + 2) bs) (entries-bytes bs k (at + 2) (omega arith)))
 
--- an even rest is the bytes of the entries that are read
+-- if the number of bytes left is even, they are the bytes of the entries that are read
 pub schedule-bytes :
     (bs : List ℕ) (at : ℕ) → at ≤ length bs → (length bs - at) % 2 ≡ 0 → Schedule-entries (entries-at bs at) (drop at bs)
 unfolding entries-at
 schedule-bytes bs at h e = entries-bytes bs ((length bs - at) / 2) at (omega arith)
 
--- the other way
+-- the converse
 pub record Entries-read (bs : List ℕ) (at : ℕ) (is ss : List ℕ) : Type 0 where
   pub doubled : length ss ≡ 2 * length is
   pub read : entries-from bs (length is) at ≡ is

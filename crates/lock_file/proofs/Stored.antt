@@ -1,4 +1,4 @@
--- Words stored where there is room: what stands at each index.
+-- Words stored within the arrays: the word at each index.
 use mathlib.Core.Path.{_≡_, refl, sym, _∙_}
 use mathlib.Core.List.{List}
 use mathlib.Core.Bool.{Bool, true, false}
@@ -25,7 +25,7 @@ unfolding stored
 stored-other n ws k v j h =
     by-test (λ l. getD l j 0 ≡ getD ws j 0) (ltb k n) (set ws k v) ws (λ e. getD-set-other ws k j v 0 h) (λ e. refl)
 
--- two arrays are the same that agree from one index to before another and are 0 elsewhere
+-- two arrays are the same if they agree between two indices and are 0 elsewhere
 pub same-words :
     (n first end : ℕ) (xs ys : List ℕ) → length xs ≡ n → length ys ≡ n →
     ((j : ℕ) → first ≤ j → j < end → j < n → getD xs j 0 ≡ getD ys j 0) →
@@ -38,7 +38,7 @@ same-words n first end xs ys a b within x y =
     by j h false true p q = within j (ltb-false j first p) (ltb-true j end q) (omega arith)
     by j h false false p q = x j (inr (ltb-false j end q)) ∙ sym (y j (inr (ltb-false j end q)))
 
--- words of others than those from d on, k of them
+-- an index that is not one of the k from d on
 abbrev pub Outside : (index from many : ℕ) → Type 0
 Outside j d k = (j < d) ⊎ (d + k ≤ j)
 

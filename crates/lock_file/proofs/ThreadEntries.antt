@@ -1,4 +1,4 @@
--- The threads' entries: what reading them stores, and that it reads exactly the entries that stand there.
+-- The threads' entries: what reading them stores, and that it reads exactly the entries that are there.
 use mathlib.Core.Path.{_≡_, refl, sym, _∙_, ap}
 use mathlib.Core.List.{List, [], _++_, append-assoc}
 use mathlib.Core.Logic.{inl}
@@ -16,7 +16,7 @@ use Rattle.lock_file.proofs.Within.{position, threads-position}
 use Rattle.lock_file.proofs.Stored.{stored-length, stored-here, stored-other, Outside, outside-next, outside-apart}
 use Rattle.lock_file.proofs.ThreadEntry.{thread-bytes, thread-fields}
 
--- reading keeps the room
+-- reading keeps the lengths of the arrays
 pub threads-room :
     (bs : List ℕ) (k i before at : ℕ) (hs : List ℕ) → length (threads-from bs k i before at hs .homes) ≡ length hs
 unfolding threads-from
@@ -30,7 +30,7 @@ threads-room bs (suc k) i before at hs =
     (λ e. rw (thread-ended bs k i before at hs e))
     (λ p e. rw (thread-bad bs k i before at hs p e))
 
--- the homes of other threads stay
+-- the homes of other threads are unchanged
 pub threads-kept :
     (bs : List ℕ) (k i before at : ℕ) (hs : List ℕ) (j : ℕ) → Outside j i k →
     getD (threads-from bs k i before at hs .homes) j 0 ≡ getD hs j 0
@@ -45,14 +45,14 @@ threads-kept bs (suc k) i before at hs j o =
     (λ e. rw (thread-ended bs k i before at hs e))
     (λ p e. rw (thread-bad bs k i before at hs p e))
 
--- a position that reading came to lies within the file
+-- a position that reading reaches is within the file
 pub threads-within :
     (bs : List ℕ) (k i before at next : ℕ) (hs : List ℕ) → at ≤ length bs → threads-from bs k i before at hs .reached ≡ At next →
     next ≤ length bs
 unfolding position
 threads-within bs k i before at next hs a e = rw e at (threads-position bs k i before at hs a)
 
--- entries that were read: their bytes, up to the position reached
+-- entries that were read, with their bytes up to the position reached
 pub record Threads-at (bs : List ℕ) (i k before at next : ℕ) (hs : List ℕ) : Type 0 where
   pub bytes : List ℕ
   pub entries : Thread-entries hs i k before bytes
@@ -91,7 +91,7 @@ threads-bytes bs (suc k) i before at next hs a e =
     let bad : BadMap p ≡ At next = rw (thread-bad bs k i before at hs p g) at e in
     absurd (let z : _≡_ {A = ℕ} 0 1 = cc in omega arith))
 
--- the other way: entries that stand at a position are read, and their homes stored
+-- conversely, entries at a position are read, and their homes stored
 pub record Threads-read (bs : List ℕ) (i k at : ℕ) (r : ThreadsRead) (given bytes rest : List ℕ) : Type 0 where
   pub reached : r .reached ≡ At (at + length bytes)
   pub behind : drop (at + length bytes) bs ≡ rest

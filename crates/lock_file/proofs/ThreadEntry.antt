@@ -1,4 +1,4 @@
--- One thread's entry: reading it at a position, and its bytes standing there, are the same.
+-- One thread's entry: reading it at a position succeeds exactly if its bytes are there.
 use mathlib.Core.Path.{_≡_, refl}
 use mathlib.Core.List.{List, [], _∷_, _++_}
 use Prim.Native.Nat.{ℕ, zero, suc, _+_, _%_, _≤_}
@@ -39,7 +39,7 @@ thread-bytes bs before at next e =
     let w = thread-within bs at next e in
     thread-map bs before at next (byte bs at) refl (w .meaningful) (w .reaches) (w .within)
 
--- the other way: an entry's bytes at a position are read as its home, and reading goes on after them
+-- conversely, an entry's bytes at a position are read as its home, and reading continues after them
 pub record Thread-read (bs : List ℕ) (at before h : ℕ) (bytes rest : List ℕ) : Type 0 where
   pub reached : thread-end bs at ≡ At (at + length bytes)
   pub home : home-at bs before at ≡ h

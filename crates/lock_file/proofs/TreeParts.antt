@@ -1,4 +1,4 @@
--- Reading a tree as two parts: D with the domains' entries, T with the threads'.
+-- Reading a tree in two parts: D with the domains' entries, T with the threads' entries.
 use mathlib.Core.Path.{_≡_, refl}
 use mathlib.Core.List.{List}
 use Prim.Native.Nat.{ℕ, zero, suc, _+_, _-_, _≤_, _<_, _%_}

@@ -1,4 +1,4 @@
--- Where reading comes to lies within the file.
+-- The position that reading reaches is within the file.
 use mathlib.Core.Path.{_≡_, refl}
 use mathlib.Core.Bool.{cond}
 use mathlib.Core.List.{List}
@@ -13,7 +13,7 @@ use Rattle.lock_file.specs.declared.Reached.the-variants.{At, Ended, Bad
 use Rattle.lock_file.specs.Reading.{domain-count, byte, two-bytes, field-end, entry-end, domain-size, domain-end, parent-at, threshold-at, stored, domains-at, domains-from, domains-read, thread-end, home-at, threads-from, threads-after, threads-read, schedule-start, tree-read}
 use Rattle.lock_file.proofs.Positions.{reached-cases, domain-then, domain-ended, domain-bad, thread-then, thread-ended, thread-bad}
 
--- the position that reading came to, or the place of a bit map
+-- the position reached, or the place of a bit map without a meaning
 unfoldable pub position : Reached → ℕ
 position (At at) = at
 position Ended = 0

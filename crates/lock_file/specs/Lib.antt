@@ -1,4 +1,4 @@
--- In the order of document 01: what a reader must believe about the lock file. The laws' proofs are in proofs/.
+-- The definitions about the lock file that a reader must trust, in the order of document 01. The proofs of the laws are in proofs/.
 pub mod Reading
 pub mod Answers
 pub mod Format

@@ -1,3 +1,3 @@
--- What a reader must believe about numerals and the printed listing. The law's proof is in proofs/.
+-- The definitions about numerals and the printed listing that a reader must trust. The proof of the law is in proofs/.
 pub mod Listing
 pub mod ListingLaws

@@ -12,7 +12,7 @@ use Rattle.lock_file.specs.declared.DomainsRead.{DomainsRead}
 use Rattle.lock_file.specs.declared.ThreadsRead.{ThreadsRead}
 use Rattle.lock_file.specs.declared.TreeRead.{TreeRead}
 
--- document 01's number and place for each way that reading goes: 2 at the file's length, 3 at the bit map
+-- the number and place of a reading that failed: 2 at the file's length, 3 at the bit map
 unfoldable pub reached-refusal : (bytes : List ℕ) → Reached → Refusal
 reached-refusal bs (At at) = accepted
 reached-refusal bs Ended = refusal 2 (length bs)
@@ -22,58 +22,63 @@ reached-refusal bs (BadMap p) = refusal 3 p
 abbrev pub byte : (bytes : List ℕ) → (at : ℕ) → ℕ
 byte bs at = getD bs at 0
 
--- two bytes, low byte first
+-- a number from two bytes, low byte first
 abbrev pub low-first : (low high : ℕ) → ℕ
 low-first l h = l + 256 * h
 
+-- the number in the two bytes at a position
 abbrev pub two-bytes : (bytes : List ℕ) → (at : ℕ) → ℕ
 two-bytes bs at = low-first (byte bs at) (byte bs (at + 1))
 
--- the first byte: D, and 128 more for a ticket root
+-- D: the first byte, without the 128 of a ticket root
 abbrev pub domain-count : (bytes : List ℕ) → ℕ
 domain-count bs = byte bs 0 % 128
 
+-- 1 for a ticket root, 0 for a queue root
 abbrev pub root-number : (bytes : List ℕ) → ℕ
 root-number bs = byte bs 0 / 128
 
--- the bits of a bit map, each 0 or 1
+-- bit 0 of a bit map, 0 or 1
 abbrev pub bit-0 : (map : ℕ) → ℕ
 bit-0 m = m % 2
 
+-- bit 1 of a bit map, 0 or 1
 abbrev pub bit-1 : (map : ℕ) → ℕ
 bit-1 m = m / 2 % 2
 
--- after a field or an entry of some size; ended where the file ends inside it or where it is still due
+-- the position after a field or an entry of this size, unless the file ends before it
 unfoldable pub field-end : (bytes : List ℕ) → (at size : ℕ) → Reached
 field-end bs at size = cond (ltb (length bs - at) size) Ended (At (at + size))
 
--- after an entry that starts with a bit map; a map above the largest has a bit set that has no meaning
+-- the position after an entry that starts with a bit map; a map above the largest has a bit without a meaning
 unfoldable pub entry-end : (bytes : List ℕ) → (largest at size : ℕ) → Reached
 entry-end bs largest at size = cond (leb (length bs) at) Ended (cond (ltb largest (byte bs at)) (BadMap at) (field-end bs at size))
 
--- a domain's entry: a bit map, then only the fields whose bit is set: bit 0 the parent, one byte, bit 1 the threshold, two bytes
+-- the size of a domain's entry: one byte for the bit map, one for the parent if bit 0 is set, two for the threshold if bit 1 is set
 unfoldable pub domain-size : (map : ℕ) → ℕ
 domain-size m = 1 + bit-0 m + 2 * bit-1 m
 
+-- the position after a domain's entry
 unfoldable pub domain-end : (bytes : List ℕ) → (at : ℕ) → Reached
 domain-end bs at = entry-end bs 3 at (domain-size (byte bs at))
 
--- the parent in a domain's entry; else 0
+-- the parent in a domain's entry; 0 without bit 0
 unfoldable pub parent-at : (bytes : List ℕ) → (at : ℕ) → ℕ
 parent-at bs at = cond (eqb (bit-0 (byte bs at)) 1) (byte bs (at + 1)) 0
 
--- the threshold in a domain's entry; else 16
+-- the threshold in a domain's entry; 16 without bit 1
 unfoldable pub threshold-at : (bytes : List ℕ) → (at : ℕ) → ℕ
 threshold-at bs at = cond (eqb (bit-1 (byte bs at)) 1) (two-bytes bs (at + 1 + bit-0 (byte bs at))) 16
 
+-- the position reached, and the domains read so far
 abbrev pub domains-at : Reached → (parents thresholds : List ℕ) → DomainsRead
 domains-at r ps hs = record { reached = r; parents = ps; thresholds = hs }
 
--- a word is stored where there is room
+-- the array with a word stored, if the index is below the array's length
 unfoldable pub stored : (room : ℕ) → (words : List ℕ) → (at word : ℕ) → List ℕ
 stored room ws k v = cond (ltb k room) (set ws k v) ws
 
--- the entries of the domains from one on, as many as are left; there is room for 64
+-- the entries of `left` domains, starting at a given one; 64 of them are stored
 unfoldable pub domains-from : (bytes : List ℕ) → (left domain at : ℕ) → (parents thresholds : List ℕ) → DomainsRead
 domains-from bs zero d at ps hs = domains-at (At at) ps hs
 domains-from bs (suc k) d at ps hs =
@@ -83,24 +88,25 @@ domains-from bs (suc k) d at ps hs =
       | BadMap p ↦ domains-at (BadMap p) ps hs
     ]
 
--- D in a byte, then the domains 1 to D − 1; D of 0 or 1 has no domain entry
+-- D in one byte, then the domains 1 to D − 1; with D of 0 or 1 there are no domain entries
 unfoldable pub domains-read : (bytes : List ℕ) → DomainsRead
 domains-read bs =
     cond (eqb (length bs) 0) (domains-at Ended (replicate 64 0) (replicate 64 0))
     (domains-from bs (domain-count bs - 1) 1 1 (replicate 64 0) (replicate 64 0))
 
--- a thread's entry: a bit map, and if its bit 0 is set the home, one byte
+-- the position after a thread's entry: a bit map, and the home in one byte if bit 0 is set
 unfoldable pub thread-end : (bytes : List ℕ) → (at : ℕ) → Reached
 thread-end bs at = entry-end bs 1 at (1 + bit-0 (byte bs at))
 
--- the home in a thread's entry; else the home of the thread before
+-- the home in a thread's entry; without bit 0, that of the thread before
 unfoldable pub home-at : (bytes : List ℕ) → (before at : ℕ) → ℕ
 home-at bs before at = cond (eqb (bit-0 (byte bs at)) 1) (byte bs (at + 1)) before
 
+-- the position reached, and the homes read so far
 abbrev pub threads-at : Reached → (homes : List ℕ) → ThreadsRead
 threads-at r hs = record { reached = r; homes = hs }
 
--- the entries of the threads from one on, as many as are left; there is room for 256
+-- the entries of `left` threads, starting at a given one; 256 of them are stored
 unfoldable pub threads-from : (bytes : List ℕ) → (left thread before at : ℕ) → (homes : List ℕ) → ThreadsRead
 threads-from bs zero i before at hs = threads-at (At at) hs
 threads-from bs (suc k) i before at hs =
@@ -117,23 +123,25 @@ threads-after bs at (At next) = threads-from bs (two-bytes bs at) 0 0 next (repl
 threads-after bs at Ended = threads-at Ended (replicate 256 0)
 threads-after bs at (BadMap p) = threads-at (BadMap p) (replicate 256 0)
 
+-- the threads, read from where the domains end
 unfoldable pub threads-read : (bytes : List ℕ) → Reached → ThreadsRead
 threads-read bs (At at) = threads-after bs at (field-end bs at 2)
 threads-read bs Ended = threads-at Ended (replicate 256 0)
 threads-read bs (BadMap p) = threads-at (BadMap p) (replicate 256 0)
 
+-- T, read from where the domains end
 unfoldable pub thread-count : (bytes : List ℕ) → Reached → ℕ
 thread-count bs (At at) = two-bytes bs at
 thread-count bs Ended = 0
 thread-count bs (BadMap p) = 0
 
--- the rest is the schedule, two bytes an entry: with an odd rest the file ends inside one
+-- where the schedule starts. The rest of the file is the schedule, two bytes per entry; an odd number of bytes ends inside an entry
 unfoldable pub schedule-start : (bytes : List ℕ) → Reached → Reached
 schedule-start bs (At at) = cond (eqb ((length bs - at) % 2) 0) (At at) Ended
 schedule-start bs Ended = Ended
 schedule-start bs (BadMap p) = BadMap p
 
--- the tree as it was read, and where the schedule starts
+-- the tree that was read, and where the schedule starts
 unfoldable pub tree-read : (bytes : List ℕ) → TreeRead
 tree-read bs =
     let domains = domains-read bs in
@@ -151,27 +159,30 @@ tree-read bs =
           };
     }
 
--- the schedule's entries from a position, as many as are left
+-- `left` schedule entries, starting at a position
 unfoldable pub entries-from : (bytes : List ℕ) → (left at : ℕ) → List ℕ
 entries-from bs zero at = []
 entries-from bs (suc k) at = two-bytes bs at ∷ entries-from bs k (at + 2)
 
+-- all schedule entries from a position on
 unfoldable pub entries-at : (bytes : List ℕ) → (at : ℕ) → List ℕ
 entries-at bs at = entries-from bs ((length bs - at) / 2) at
 
--- what a file comes to: refused by 2 or 3, or a tree with a schedule
+-- the result of reading: refused by 2 or 3, or a tree with a schedule
 pub data Reading : Type 0 where
   refused : Refusal → Reading
   described : TreeWords → (schedule : List ℕ) → Reading
 
+-- the result, given where the schedule starts and the tree
 unfoldable pub reading-of : (bytes : List ℕ) → Reached → TreeWords → Reading
 reading-of bs (At at) w = described w (entries-at bs at)
 reading-of bs Ended w = refused (reached-refusal bs Ended)
 reading-of bs (BadMap p) w = refused (reached-refusal bs (BadMap p))
 
+-- the result of reading a file
 unfoldable pub file-read : (bytes : List ℕ) → Reading
 file-read bs = reading-of bs (tree-read bs .reached) (tree-read bs .tree)
 
--- entries at the front of a buffer and nothing after them changed; a buffer that is too short for them, as it came
+-- the buffer with entries at its front and the rest unchanged; a buffer too short for them is unchanged
 unfoldable pub filled : (entries buffer : List ℕ) → List ℕ
 filled is b = cond (ltb (length b) (length is)) b (is ++ drop (length is) b)

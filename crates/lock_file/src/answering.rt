@@ -28,7 +28,7 @@ fn refused_by(number: u32, place: u32) -> ReadReply
     }
 }
 
-// A tree whose schedule starts at a position.
+// The reply for a tree whose schedule starts at a position.
 fn described_at(file: &[u8], at: usize, tree: TreeWords, schedule: &mut [u16]) -> ReadReply
     requires { ⌜ at ≤ length (now file) ⌝ }
     requires { ⌜ length (now file) ≤ 65536 ⌝ }

@@ -1,6 +1,6 @@
-// The words in which the file call is answered. What they mean is in specs/.
+// The reply of the file call. Its meaning is in specs/.
 
-// What the file call returns. Number 0 is accepted.
+// What the file call returns. Number 0 means accepted.
 #[repr(C)]
 pub struct FileReply {
     pub number: u32,

@@ -1,6 +1,6 @@
-// The words in which writing the lock file is answered. What they mean is in specs/.
+// The reply of writing the lock file. Its meaning is in specs/.
 
-// What the call returns. Number 0 is accepted.
+// What the call returns. Number 0 means accepted.
 #[repr(C)]
 pub struct WriteReply {
     pub number: u32,

@@ -10,21 +10,21 @@ ghost use Rattle.lock_file.specs.Answers.{read-answer, schedule-answer};
 ghost use Rattle.lock_file.specs.Reading.{tree-read, entries-at, filled};
 use model::TreeWords;
 
-// How far reading came: to a position, to the end of the file inside a field or where one is still due, or to a bit map with a bit that has no meaning.
+// How far reading came: to a position; to the end of the file, inside a field or before one; or to a bit map with a bit that has no meaning.
 pub enum Reached {
     At(usize),
     Ended,
     BadMap(usize),
 }
 
-// The domains' words, as far as there is room.
+// The words of the domains, as many as the arrays hold.
 pub(crate) struct DomainsRead {
     reached: Reached,
     parents: [u8; 64],
     thresholds: [u16; 64],
 }
 
-// The threads' homes, as far as there is room.
+// The homes of the threads, as many as the array holds.
 pub(crate) struct ThreadsRead {
     reached: Reached,
     homes: [u8; 256],
@@ -36,7 +36,7 @@ pub struct TreeRead {
     pub tree: TreeWords,
 }
 
-// What reading a lock file returns. Number 0 is accepted; refused, the length and all words of the tree are 0.
+// What reading a lock file returns. Number 0 means accepted; if refused, the length and all words of the tree are 0.
 #[repr(C)]
 pub struct ReadReply {
     pub number: u32,
@@ -52,7 +52,7 @@ pub fn read_tree(file: &[u8]) -> TreeRead
     reading::tree_of(file)
 }
 
-// The schedule's entries from a position, at the front of a buffer; a buffer that is too short for them stays as it came.
+// The schedule entries from a position on, at the front of a buffer; a buffer too short for them is unchanged.
 pub fn read_schedule(file: &[u8], at: usize, schedule: &mut [u16])
     ensures { λ r. ⌜ now (schedule .exit) ≡ filled (entries-at (now (file .entry)) at) (now (schedule .entry)) ⌝ }
 {
@@ -66,7 +66,7 @@ pub fn read_schedule(file: &[u8], at: usize, schedule: &mut [u16])
     reading::read_entries(file, at, entries, schedule);
 }
 
-// A lock file without its run: the tree, how many turns its schedule has, and the schedule at the front of a buffer; refused, or with too little room for them, that buffer as it came.
+// Reads a lock file without running it: the tree, the number of schedule entries, and the schedule at the front of a buffer; if refused, or if the buffer is too short, it is unchanged.
 pub fn read_file(file: &[u8], schedule: &mut [u16]) -> ReadReply
     ensures { λ r. ⌜ r ≡ read-answer (now (file .entry)) ⌝ }
     ensures { λ r. ⌜ now (schedule .exit) ≡ schedule-answer (now (file .entry)) (now (schedule .entry)) ⌝ }

@@ -1,1 +1,1 @@
-// Decimal numerals, the listing of a run and the line of a refusal: specs/ says what they are, and `printed_listing_call` writes them.
+// Decimal numerals, the listing of a run and the refusal line: specs/ defines them, and `file_calls` writes them.

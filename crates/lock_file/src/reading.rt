@@ -10,14 +10,14 @@ use crate::ThreadsRead;
 use crate::TreeRead;
 use model::TreeWords;
 
-// The byte at a position; 0 after the file.
+// The byte at a position; 0 after the end of the file.
 fn byte_at(file: &[u8], at: usize) -> u8
     ensures { λ r. ⌜ r ≡ byte (now (file .entry)) at ⌝ }
 {
     if at < file.len() { file[at] } else { 0 }
 }
 
-// Two bytes, low byte first.
+// The number in two bytes, low byte first.
 fn two_bytes_at(file: &[u8], at: usize) -> u16
     ensures { λ r. ⌜ r ≡ two-bytes (now (file .entry)) at ⌝ }
 {
@@ -29,7 +29,7 @@ fn two_bytes_at(file: &[u8], at: usize) -> u16
     low + 256 * high
 }
 
-// Behind a field or an entry of some size.
+// The position after a field or an entry of this size.
 fn field_end_at(file: &[u8], at: usize, size: usize) -> Reached
     requires { ⌜ 0 < size ⌝ }
     ensures { λ r. ⌜ r ≡ field-end (now (file .entry)) at size ⌝ }
@@ -43,7 +43,7 @@ fn field_end_at(file: &[u8], at: usize, size: usize) -> Reached
     Reached::At(at + size)
 }
 
-// Behind an entry that starts with a bit map.
+// The position after an entry that starts with a bit map.
 fn entry_end_at(file: &[u8], largest: u8, at: usize, size: usize) -> Reached
     requires { ⌜ 0 < size ⌝ }
     ensures { λ r. ⌜ r ≡ entry-end (now (file .entry)) largest at size ⌝ }
@@ -92,7 +92,7 @@ fn threshold_of(file: &[u8], at: usize) -> u16
     }
 }
 
-// A word is stored where there is room.
+// Stores a word if the array is long enough.
 fn store_parent(parents: &mut [u8; 64], domain: usize, parent: u8)
     ensures { λ r. ⌜ now (parents .exit) ≡ stored 64 (now (parents .entry)) domain parent ⌝ }
 {
@@ -117,7 +117,7 @@ fn store_home(homes: &mut [u8; 256], thread: usize, home: u8)
     }
 }
 
-// The entries of the domains 1 to D - 1, from the byte behind D.
+// The entries of the domains 1 to D - 1, from the byte after D.
 fn read_domains_from(file: &[u8], domains: usize) -> DomainsRead
     ensures { λ r. ⌜ r ≡ domains-from (now (file .entry)) (domains - 1) 1 1 (replicate 64 0) (replicate 64 0) ⌝ }
 {
@@ -261,14 +261,14 @@ fn read_threads(file: &[u8], reached: Reached) -> ThreadsRead
     }
 }
 
-// D, in a first byte.
+// D, from the first byte.
 fn domain_count_of(x: u8) -> u32
     ensures { λ r. ⌜ r ≡ x % 128 ⌝ }
 {
     (x % 128) as u32
 }
 
-// The number that names the kind of root, in a first byte.
+// The number of the kind of root, from the first byte.
 fn root_number_of(x: u8) -> u32
     ensures { λ r. ⌜ r ≡ x / 128 ⌝ }
 {
@@ -297,7 +297,7 @@ fn schedule_start_at(file: &[u8], at: usize) -> Reached
     Reached::Ended
 }
 
-// The rest is the schedule, two bytes an entry.
+// Where the schedule starts: it is the rest of the file, two bytes per entry.
 fn schedule_start_of(file: &[u8], reached: Reached) -> Reached
     ensures { λ r. ⌜ r ≡ schedule-start (now (file .entry)) reached ⌝ }
 {

@@ -1,4 +1,4 @@
--- The branches of the rows: for each row of the step table where it is taken, as facts, and what it comes to. Here alone the rows are unfolded and their tests split; the proofs that go by rows match on these branches. Where a row differs at the root, the root's branches and the inner domains' are apart, as in the two templates of Listing 1.
+-- The branches of the rows: when each row of the step table applies, as facts, and its result. Only here are the rows unfolded and their tests split; the proofs by rows match on these branches. If a row differs at the root, its branches for the root and for inner domains are separate, as in the two templates of Listing 1.
 use mathlib.Core.Path.{_≡_, refl}
 use mathlib.Core.Bool.{Bool, true, false}
 use mathlib.Core.List.{[], _∷_}
@@ -15,23 +15,23 @@ use Rattle.model.specs.Steps.{other, root-entry, passed-entry, crossed-e
 use Rattle.model.proofs.Tests.{by-test}
 
 module _ (t : Tree) (i : ℕ) (s : State) where
-  -- what rows come to. The tail is the own record
+  -- results of rows: the thread's own record is the tail
   abbrev pub swapped : (domain : ℕ) → State
   swapped l = with-tail l (own-record t i l + 1) s
 
-  -- Link after the old tail
+  -- the thread is in Link after the old tail
   abbrev pub stood-after : (domain : ℕ) → Row-result
   stood-after l = record { kind = other; standing = begins (own-record t i l); state = with-place i (Link l (tail s l - 1)) (swapped l) }
 
-  -- the place is Grant to the successor, with a word
+  -- the thread is about to grant its successor a word
   abbrev pub about-to-grant : (domain word : ℕ) → Row-result
   about-to-grant l v = moves (with-place i (Grant l (next s (own-record t i l) - 1) v) s)
 
-  -- the ticket is taken
+  -- the thread has drawn a ticket
   abbrev pub drawn : State
   drawn = with-ticket (wrap (s .ticket + 1)) (with-status (own-record t i 0) (s .ticket) s)
 
--- the word that a row writes or grants, where it differs at the root
+-- a word that a row writes or grants and that differs at the root
 pub data Word-at (l root inner : ℕ) : (word : ℕ) → Type 0 where
   at-root : l ≡ 0 → Word-at l root inner root
   below-root : l ≢ 0 → Word-at l root inner inner
@@ -44,11 +44,11 @@ word-is {l} (at-root z) = rw (eq-eqb l 0 z)
 word-is {l} (below-root z) = rw (ne-eqb l 0 z)
 
 pub data Branch (t : Tree) (i : ℕ) (s : State) : Place → Row-result → Type 0 where
-  -- Idle: what Draw does, or Prep at home
+  -- Idle: does what Draw does, or what Prep does at home
   idle-draws : {x : Row-result} → is-ticket t (t .home i) ≡ true → Branch t i s Draw x → Branch t i s Idle x
   idle-prepares : {x : Row-result} → is-ticket t (t .home i) ≡ false → Branch t i s (Prep (t .home i)) x → Branch t i s Idle x
   prepares : (l v : ℕ) → Word-at l locked wait-word v → Branch t i s (Prep l) (prep-with t i l v s)
-  -- Swap: alone at the root, alone below it, after another
+  -- Swap: the queue was empty, at the root or below it; or the thread is after another
   swap-root : (l : ℕ) → l ≡ 0 → tail s l ≡ none → Branch t i s (Swap l) (swap-at-root t i l (swapped t i s l))
   swap-inner : (l : ℕ) → l ≢ 0 → tail s l ≡ none → Branch t i s (Swap l) (acquires-parent t i l (swapped t i s l))
   swap-joins : (l : ℕ) → tail s l ≢ none → Branch t i s (Swap l) (stood-after t i s l)
@@ -56,7 +56,7 @@ pub data Branch (t : Tree) (i : ℕ) (s : State) : Place → Row-result → Type
   -- Wait at the root: locked, or granted
   wait-root-locked : (l : ℕ) → l ≡ 0 → status s (own-record t i l) ≡ locked → Branch t i s (Wait l) (stays s)
   wait-root-granted : (l : ℕ) → l ≡ 0 → status s (own-record t i l) ≢ locked → Branch t i s (Wait l) (enters root-entry i s)
-  -- Wait below the root: not granted, granted the domain and to acquire its parent, granted the lock at home or between home and root
+  -- Wait below the root: not granted; granted the domain only, so the parent is next; granted the lock, at home or between home and root
   wait-ungranted : (l : ℕ) → l ≢ 0 → status s (own-record t i l) ≡ wait-word → Branch t i s (Wait l) (stays s)
   wait-acquires : (l : ℕ) → l ≢ 0 → status s (own-record t i l) ≡ acquire-parent → Branch t i s (Wait l) (acquires-parent t i l s)
   wait-passed :
@@ -66,7 +66,7 @@ pub data Branch (t : Tree) (i : ℕ) (s : State) : Place → Row-result → Type
       (l : ℕ) → l ≢ 0 → status s (own-record t i l) ≢ wait-word → status s (own-record t i l) ≢ acquire-parent → l ≢ t .home i →
       Branch t i s (Wait l) (enters crossed-entry i s)
   inside-leaves : Branch t i s Inside (record { kind = leaving; standing = unchanged; state = with-place i (release-place t (t .home i)) s })
-  -- Check: the lock is passed on, or the parent released first
+  -- Check: the lock is passed on, or the parent is released first
   check-passes :
       (l : ℕ) → status s (own-record t i l) < t .threshold l → next s (own-record t i l) ≢ none →
       Branch t i s (Check l) (about-to-grant t i s l (status s (own-record t i l) + 1))

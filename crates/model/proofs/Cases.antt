@@ -15,7 +15,7 @@ use Rattle.model.specs.Cases.Marked.{padded, tree, count-up, ok, refused
 use Rattle.model.proofs.Walks.{walked, zero-from, first-pass, formed-by-walks, zipped}
 use Rattle.model.proofs.Computing.{walked-step, walked-refusal, holds-by-walks, all-hold-by-walks, case-sized, all-sized, same-cases}
 
--- the states that they hand in are whole
+-- the states that the cases pass in are complete
 cases-sized : all-sized cases ≡ true
 unfolding numbers-at store-numbers fresh-words counters cases first-entries case-sized all-sized
 cases-sized = refl
@@ -32,7 +32,7 @@ unfolding any-below filter-below all-below read-word tree-of is-ticket is-child 
     holds-by-walks all-hold-by-walks
 cases-hold = same-cases cases cases-sized ∙ refl
 
--- the threads under domain 1 enter as often as its allowance says, while domain 2 stands ungranted
+-- the threads under domain 1 enter as often as its allowance permits while domain 2 stands ungranted
 pub reached : allowance-reached ≡ true
 unfolding any-below filter-below largest-below read-word tree-of is-ticket is-child is-leaf meets on-path child-from child own-record under domain-allowance
     allowance place-of is-watch numbers-at store-numbers fresh-words fresh-state is-entry prep-row swap-row link-row wait-row leave-row check-row help-row cas-row linger-row grant-row

@@ -1,4 +1,4 @@
--- The allowances are reached, and a list with refused calls is answered as it says.
+-- The allowances are reached, and a list with refused calls is answered as stated.
 use mathlib.Core.Path.{_≡_, refl, ap, _∙_}
 use mathlib.Core.Bool.{Bool, true, false, _&&_, cond}
 use mathlib.Core.List.{List, [], _∷_, _++_}
@@ -38,7 +38,7 @@ unfolding any-below filter-below largest-below read-word tree-of is-ticket is-ch
     inner-allowance-reached Allowances-reached
 allowances-reached = (refl, refl)
 
--- what holds of 0, 1 and 2 holds below 3
+-- what holds for 0, 1 and 2 holds below 3
 pub below-three : (P : ℕ → Type 0) → P 0 → P 1 → P 2 → (k : ℕ) → k < 3 → P k
 below-three P a b c zero h = a
 below-three P a b c (suc zero) h = b
@@ -57,7 +57,7 @@ same-tree =
       root = (λ e. refl, λ e. refl);
     })
 
--- FROM THE REFUSALS THAT A LIST IS ANSWERED WITH, its names and its schedule
+-- THE TREE AND THE SCHEDULE OF A LIST, from the refusals in its answers
 call-refused : (c : Call) (s : LockState) → refusal-in (answer c s) .number ≡ call-refusal c s .number
 unfolding refusal refusal-in answer answer-to call-refusal ask-refusal step-answer run-answer
 call-refused c s = by (c .ask)
@@ -87,7 +87,7 @@ unfolding joined joined-by added answers refusals-in
 joined-same [] s = refl
 joined-same (c ∷ cs) s = rw (call-refused c s, joined-same cs (state-in (answer c s)))
 
--- THE REFUSALS BY WALKS: the answer to a call by its refusal, which is walked
+-- REFUSALS BY SINGLE PASSES: the answer to a call, given its refusal
 unfoldable answer-by : TreeWords → Ask → Refusal → LockState → Answer
 answer-by w (one-step i) r s = stepped (step-reply r s (steps (tree-of w) (i ∷ []) (s .words)) (counters-after-run (tree-of w) (i ∷ []) s))
 answer-by w (a-run is b) r s =
@@ -98,7 +98,7 @@ unfoldable walked-refusal : Tree → Ask → LockState → Refusal
 walked-refusal t (one-step i) s = counted-refusal t (formed-by-walks t (s .words)) s (entry-tests t (i ∷ [])) (i ∷ [])
 walked-refusal t (a-run is b) s = counted-refusal t (formed-by-walks t (s .words)) s (schedule-tests t is ++ room-tests is (length b)) is
 
--- where the state is whole and the schedule short
+-- the state is complete and the schedule short
 abbrev fits : Ask → LockState → Bool
 fits a s = leb (length (asked-entries a)) 65536 && state-sized (s .words)
 
@@ -119,7 +119,7 @@ same-answer w a s e = by a (leb-true _ _ (both .0))
 abbrev walked-answer : Call → LockState → Answer
 walked-answer c s = answer-by (c .tree) (c .ask) (walked-refusal (tree-of (c .tree)) (c .ask) s) s
 
--- of a list up to the first call that does not fit, so that a list as long as the calls is the list of their refusals
+-- the refusals of the calls before the first that does not fit; if there are as many as calls, they are the refusals of the list
 unfoldable walked-refusals : List Call → LockState → List Refusal
 walked-refusals [] s = []
 walked-refusals (c ∷ cs) s =

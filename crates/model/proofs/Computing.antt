@@ -1,4 +1,4 @@
--- COMPUTED CASES, QUICKLY: whether a state is well formed is asked by walks, and 19 is left out where the counters have room. Each gives what the definition gives, so that a case is computed so.
+-- FAST COMPUTED CASES: well-formedness is tested by single passes, and 19 is left out if no counter can exceed its limit. Both give what the definition gives, so the cases are computed with them.
 use mathlib.Core.Path.{_≡_, refl, sym, ap, _∙_}
 use mathlib.Core.Bool.{Bool, true, false, _&&_, not, cond}
 use mathlib.Core.List.{List, [], _∷_, _++_, append-nil}
@@ -28,7 +28,7 @@ use Rattle.model.proofs.Walks.{Sized, formed-by-walks, same-formed, cou
 use Rattle.model.proofs.Trees.Accepted.{sixteen-bit}
 use Rattle.model.proofs.Laws.Counters.{fresh-good, room-law, fresh-room}
 
--- counters so small that no schedule of 65,536 entries brings one to 2^63
+-- counters so small that no schedule of 65,536 entries raises one to 2^63
 unfoldable pub far-below : List ℕ → Bool
 far-below [] = true
 far-below (v ∷ vs) = leb v 9223372036854710272 && far-below vs
@@ -53,25 +53,25 @@ room-left c n e h =
       longest = λ d l. omega (arith, far (c .longest) (b .1) d);
     }
 
--- ANSWERS, where 10 is tested by walks, and 19 only where counters have no room: the tests before 19 and what they refuse, by whether the state is well formed and by the tests after it
+-- ANSWERS. 10 is tested by single passes, and 19 only if a counter could exceed its limit. The tests before 19 and their refusal, given whether the state is well formed and the tests after 10
 abbrev pub tests-by : Tree → (formed : Bool) → List Test → List Test
 tests-by t b xs = tree-tests t ++ ((test 10 1 (λ p. not b) ∷ []) ++ xs)
 
 abbrev pub refusal-by : Tree → (formed : Bool) → List Test → Refusal
 refusal-by t b xs = first-refusal (tests-by t b xs)
 
--- 19, which counters with room pass, by walks
+-- the test of 19 by single passes; it is left out if the counters are far below the limit
 unfoldable pub walked-counter : Tree → LockState → (schedule : List ℕ) → (position : ℕ) → Bool
 walked-counter t s is p = above-by-walks t (counters-after t (s .counters) (take (p + 1) (steps t is (s .words))))
 
 abbrev pub late-tests : Tree → LockState → (schedule : List ℕ) → List Test
 late-tests t s is = cond (have-room (s .counters)) [] (test 19 (length is) (walked-counter t s is) ∷ [])
 
--- what is refused of a state with any counters, by whether its words are well formed, by the tests after 10 and by the schedule
+-- the refusal of a state with any counters, given whether its words are well formed, the tests after 10, and the schedule
 unfoldable pub counted-refusal : Tree → (formed : Bool) → LockState → List Test → (schedule : List ℕ) → Refusal
 counted-refusal t b s xs is = first-refusal (tests-by t (b && counts-by-walks t (s .counters)) xs ++ late-tests t s is)
 
--- of a state with fresh counters, which have room and are not walked
+-- for a state with fresh counters, which are below the limit and need no pass
 unfoldable pub walked-step : TreeWords → State → (thread : ℕ) → StepReply
 walked-step w s i =
     let t = tree-of w in
@@ -86,7 +86,7 @@ unfolding first-refusal
 last-passes [] y h = test-skipped y [] h
 last-passes (x ∷ xs) y h = ap (lowest-bad (x .number) (x .bad) (x .places) 0) (last-passes xs y h)
 
--- a last test of the same places
+-- a last test may be replaced by one with the same bad places
 bad-same : (n : ℕ) (f g : ℕ → Bool) → ((p : ℕ) → f p ≡ g p) → (k p : ℕ) (r : Refusal) → lowest-bad n f k p r ≡ lowest-bad n g k p r
 unfolding lowest-bad
 bad-same n f g h zero p r = refl
@@ -108,7 +108,7 @@ same-late w s is xs h = by (have-room (s .counters)) refl
     by false e = last-same xs 19 (length is) (bad-counter (tree-of w) s is) (walked-counter (tree-of w) s is)
         (λ p. same-above (tree-of w) (counters-after (tree-of w) (s .counters) (take (p + 1) (steps (tree-of w) is (s .words)))))
 
--- of any counters
+-- for any counters
 module _ (w : TreeWords) (s : LockState) (formed : Bool) (f : well-formed (tree-of w) (s .words) ≡ formed) where
   abbrev t : Tree
   t = tree-of w
@@ -128,7 +128,7 @@ module _ (w : TreeWords) (s : LockState) (formed : Bool) (f : well-formed (tree-
       same-late w s is (run-tests-before-19 t s is room) short
       ∙ ap (λ b. first-refusal (tests-by t b (schedule-tests t is ++ room-tests is room) ++ late-tests t s is)) same-lock-formed
 
--- fresh counters pass 10, and 19 where the schedule is short
+-- fresh counters pass 10, and 19 if the schedule is short
 fresh-counts : (w : TreeWords) (s : State) → well-formed (tree-of w) s && good-counts (tree-of w) fresh-counters ≡ well-formed (tree-of w) s
 fresh-counts w s = rw (fresh-good (tree-of w)) (and-true (well-formed (tree-of w) s))
 
@@ -150,7 +150,7 @@ same-refusal w s is room short h =
     last-passes (run-tests-before-19 t (uncounted s) is room) (test 19 (length is) (bad-counter t (uncounted s) is)) (fresh-pass w s is short)
     ∙ ap (λ b. refusal-by t b (schedule-tests t is ++ room-tests is room)) (fresh-counts w s ∙ same-formed t s h)
 
--- CASES, by such answers
+-- CASES, computed with these answers
 unfoldable pub holds-by-walks : Case → Bool
 holds-by-walks (fresh-call w x) = holds (fresh-call w x)
 holds-by-walks (fresh-starts w v c) = holds (fresh-starts w v c)
@@ -166,7 +166,7 @@ unfoldable pub all-hold-by-walks : List Case → Bool
 all-hold-by-walks [] = true
 all-hold-by-walks (c ∷ cs) = holds-by-walks c && all-hold-by-walks cs
 
--- the states that the cases hand in are whole, and their schedules short
+-- the states that the cases pass in are complete, and their schedules short
 abbrev pub places-sized : PlaceArrays → Bool
 places-sized q = (eqb (length (q .rows)) 256 && eqb (length (q .domains)) 256) && (eqb (length (q .peers)) 256 && eqb (length (q .words)) 256)
 

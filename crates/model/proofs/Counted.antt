@@ -1,4 +1,4 @@
--- Counters after steps, index by index; and how little a step adds.
+-- Counters after steps, index by index; and how much a step adds at most.
 use mathlib.Core.Path.{_≡_, refl, sym, ap, _∙_}
 use mathlib.Core.Bool.{Bool, true, false, cond}
 use mathlib.Core.List.{List, [], _∷_, _++_}
@@ -47,7 +47,7 @@ unfolding each-with-index
 indexed-twice f g k [] = refl
 indexed-twice f g k (v ∷ vs) = ap (λ ws. g k (f k v) ∷ ws) (indexed-twice f g (suc k) vs)
 
--- a fact of what each index comes to, and of 0
+-- a fact about the value at each index, and about 0
 pub indexed-fact :
     (P : ℕ → ℕ → Type 0) (f : ℕ → ℕ → ℕ) (vs : List ℕ) → ((d : ℕ) → P d 0) → ((d : ℕ) → P d (f d (getD vs d 0))) →
     (d : ℕ) → P d (getD (each-with-index f 0 vs) d 0)
@@ -57,7 +57,7 @@ indexed-fact P f vs zeros each d =
       | no h ↦ rw (List·getD-eq-default (each-with-index f 0 vs) 0 {n = d} (omega (arith, indexed-long f 0 vs))) (zeros d)
     ]
 
--- COUNTS OF STEPS BEHIND STEPS
+-- COUNTS OF JOINED LISTS OF STEPS
 domain-entries-none : (t : Tree) (d : ℕ) → domain-entries t d [] ≡ 0
 unfolding domain-entries entries-under
 domain-entries-none t d = by (eqb d 0)
@@ -105,7 +105,7 @@ counters-join t c xs ys =
       indexed-same (λ d v. max v (longest-tenure t d (xs ++ ys))) (λ d v. max (max v (longest-tenure t d xs)) (longest-tenure t d ys)) 0 (c .longest) (λ d v. omega (arith, longest-tenure-join t d xs ys)),
     )
 
--- no more steps are of a kind than there are steps
+-- at most as many steps are of a kind as there are steps
 pub how-many-most : (f : Kind → Bool) (xs : List Step) → how-many f xs ≤ length xs
 unfolding how-many
 how-many-most f [] = omega arith
@@ -115,7 +115,7 @@ how-many-most f (x ∷ xs) = by (f (x .kind)) (how-many-most f xs)
     by true h = omega arith
     by false h = omega arith
 
--- HOW OFTEN a number is among those that pass
+-- OCCURRENCES of a number in a list, and among the numbers that pass a test
 pub occurrences-one : (a n : ℕ) → 1 ≤ occurrences a (n ∷ []) → a ≡ n
 unfolding occurrences
 occurrences-one a n h = same-or a n _ (λ e. e) (λ e. absurd (let z : 1 ≤ 0 + 0 = rw (ne-eqb a n e) at h in omega arith))

@@ -1,4 +1,4 @@
--- The cases of the counters hold, by walks where 10 is tested.
+-- The cases of the counters hold; 10 is tested by single passes.
 use mathlib.Core.Path.{_≡_, refl, _∙_}
 use mathlib.Core.Bool.{Bool, true, _&&_}
 use mathlib.Core.List.{List, [], _∷_, _++_}
@@ -27,7 +27,7 @@ use Rattle.model.proofs.Laws.Form.{fresh-well-formed}
 use Rattle.model.proofs.Walks.{walked, zero-from, first-pass, first-meets, formed-by-walks, same-formed, counts-by-walks, above-by-walks, zipped}
 use Rattle.model.proofs.Computing.{far-below, have-room, walked-counter, counted-refusal, same-counted-step, same-counted-run, state-sized, sized}
 
--- the words of the cases are fresh, which are well formed for every tree, or are walked
+-- the words in the cases are fresh, which is well formed for every tree, or are tested by single passes
 abbrev fresh-refusal : Tree → LockState → (schedule : List ℕ) → (room : ℕ) → Refusal
 fresh-refusal t s is n = counted-refusal t true s (schedule-tests t is ++ room-tests is (length (buffer n))) is
 
@@ -54,7 +54,7 @@ unfoldable all-hold-by-walks : List Case → Bool
 all-hold-by-walks [] = true
 all-hold-by-walks (c ∷ cs) = holds-by-walks c && all-hold-by-walks cs
 
--- the words that the cases hand in are whole, and their schedules short
+-- the words that the cases pass in are complete, and their schedules short
 unfoldable case-sized : Case → Bool
 case-sized (leaves w is c) = leb (length is) 65536
 case-sized (run-with w c is n k p) = leb (length is) 65536

@@ -1,4 +1,4 @@
--- The count of threads at Inside is at most 1 exactly if two threads at Inside are the same thread.
+-- The count of threads at Inside is at most 1 exactly if any two threads at Inside are the same thread.
 use mathlib.Core.Path.{_≡_, refl, _∙_}
 use mathlib.Core.Bool.{Bool, true, false, cond, false≢true}
 use mathlib.Core.Logic.{_≢_}
@@ -12,7 +12,7 @@ use Rattle.model.specs.Places.{is-inside}
 use Rattle.model.specs.States.{place, inside-below, inside-count}
 use Rattle.model.specs.Meanings.{Inside-count-law}
 
--- one place of those tested
+-- only Inside passes the test
 is-inside-only : (p : Place) → is-inside p ≡ true → p ≡ Inside
 unfolding is-inside
 is-inside-only Idle e = absurd (false≢true e)
@@ -58,7 +58,7 @@ inside-counted zero s i h e = absurd (omega arith)
 inside-counted (suc n) s i h e =
     elim (ℕ-discrete i n) [ yes p ↦ rw (rw p at e) (omega arith) | no p ↦ let r = inside-counted n s i (omega arith) e in omega arith ]
 
--- the last of the first threads, Inside, and another there are two
+-- if thread n is Inside and the count up to it is at most 1, no lower thread is Inside
 last-alone : (n : ℕ) (s : State) → inside-below (suc n) s ≤ 1 → place s n ≡ Inside → (j : ℕ) → j < suc n → place s j ≡ Inside → n ≡ j
 unfolding inside-below is-inside
 last-alone n s c e j l z =

@@ -1,4 +1,4 @@
--- The proofs: facts, the laws of the second demand, what the third demand's definitions mean, and the computed cases.
+-- The proofs: facts, the laws of the second demand, the meaning of the third demand's definitions, and the computed cases.
 pub mod Tests
 pub mod Lists
 pub mod Refusing

@@ -1,4 +1,4 @@
--- What the claim's definitions come to: under, allowances, prefixes, stretches, places.
+-- The meaning of the claim's definitions: under, allowances, prefixes, stretches, places.
 use mathlib.Core.Path.{_≡_, refl, sym, ap, _∙_}
 use mathlib.Core.Bool.{Bool, true, false, cond, false≢true}
 use mathlib.Core.List.{List, [], _∷_, _++_}
@@ -66,7 +66,7 @@ unfolding Under-law
 under-law t ok i h = reports-under t (accepted t ok) i h
 
 -- ALLOWANCES
--- among numbers that pass, of which there is one, one has the largest value
+-- if some number passes, one of those that pass has the largest value
 record Best (n : ℕ) (p : ℕ → Bool) (f : ℕ → ℕ) : Type 0 where
   index : ℕ
   small : index < n

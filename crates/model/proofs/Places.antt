@@ -1,4 +1,4 @@
--- A place and its four numbers: each gives the other back; a store of a place, read back.
+-- A place and its four numbers determine each other; a stored place is read back.
 use mathlib.Core.Path.{_≡_, refl, sym, ap, _∙_}
 use mathlib.Core.Bool.{Bool, true, false, _&&_, cond, false≢true}
 use mathlib.Core.Logic.{_≢_}
@@ -19,7 +19,7 @@ use Rattle.model.specs.Places.{place-words, words-of, no-row, shapes, sh
 use Rattle.model.specs.States.{numbers-at, store-numbers, Places-room, Has-room, fresh-words, fresh-state, place, with-place}
 use Rattle.model.proofs.Tests.{by-test, and-both, and-true, and-false}
 
--- the place of a place's numbers, Invalid as well
+-- the numbers of a place give the place back, also for Invalid
 pub place-of-words : (p : Place) → place-of (words-of p) ≡ p
 unfolding place-of
 place-of-words Idle = refl
@@ -60,7 +60,7 @@ pub row-place : (p : Place) (r : ℕ) → words-of p .row ≡ r → p ≡ shaped
 unfolding place-of
 row-place p r e = sym (place-of-words p) ∙ rw (words-fit p, e) refl
 
--- a row is one of the table's, or beyond them
+-- a row is one of the table's, or has a higher number
 pub by-row :
     (C : ℕ → Type 0) (r : ℕ) → C 0 → C 1 → C 2 → C 3 → C 4 → C 5 → C 6 → C 7 → C 8 → C 9 → C 10 → C 11 → C 12 → C 13 → (13 < r → C r) → C r
 by-row C r c₀ c₁ c₂ c₃ c₄ c₅ c₆ c₇ c₈ c₉ c₁₀ c₁₁ c₁₂ c₁₃ more =
@@ -71,7 +71,7 @@ by-row C r c₀ c₁ c₂ c₃ c₄ c₅ c₆ c₇ c₈ c₉ c₁₀ c₁₁ c�
     at : (k : ℕ) → k ≤ r → C k → (k < r → C r) → C r
     at k h c f = elim (ℕ-discrete r k) [ yes e ↦ rw e c | no e ↦ f (omega arith) ]
 
--- beyond the table's rows there is no shape, and so no place
+-- a higher number has no shape, and so no place
 pub beyond : (r : ℕ) → 13 < r → shape r ≡ no-row
 beyond r h = List·getD-eq-default shapes no-row {n = r} h
 
@@ -79,7 +79,7 @@ pub no-place : (q : PlaceWords) → 13 < q .row → place-of q ≡ Invalid
 unfolding place-of
 no-place q h = rw (beyond (q .row) h) (by-test (λ p. p ≡ Invalid) (eqb (q .domain) 0 && (eqb (q .peer) 0 && eqb (q .word) 0)) Invalid Invalid (λ _. refl) (λ _. refl))
 
--- four numbers that give a place: each part that the row lacks is 0, and the row's shape is the place
+-- if four numbers are a place, each part that the row does not have is 0, and the row's shape is the place
 pub place-fits : (q : PlaceWords) → place-of q ≢ Invalid → fits q ≡ true
 unfolding place-of
 place-fits q n = by (fits q) n
@@ -92,7 +92,7 @@ pub place-shaped : (q : PlaceWords) → place-of q ≢ Invalid → place-of q �
 unfolding place-of
 place-shaped q n = rw (place-fits q n)
 
--- the numbers of a row without a part, with a domain, with a domain and a record
+-- the numbers of a row without parts, with a domain, with a domain and a record
 bare-words : (r d p w : ℕ) → eqb d 0 && (eqb p 0 && eqb w 0) ≡ true → place-words r 0 0 0 ≡ place-words r d p w
 bare-words r d p w e =
     let a = and-both (eqb d 0) (eqb p 0 && eqb w 0) e in
@@ -105,7 +105,7 @@ plain-words r d p w e = let b = and-both (eqb p 0) (eqb w 0) e in rw (eqb-true p
 linked-words : (r d p w : ℕ) → eqb w 0 ≡ true → place-words r d p 0 ≡ place-words r d p w
 linked-words r d p w e = rw (eqb-true w 0 e)
 
--- the numbers of a place that four numbers give, where they give one
+-- if four numbers give a place, they are the numbers of that place
 pub words-of-place : (q : PlaceWords) → place-of q ≢ Invalid → words-of (place-of q) ≡ q
 words-of-place q n = rw (place-shaped q n) (by (q .row) (q .domain) (q .peer) (q .word) (place-fits q n) (λ z. n (no-place q z)))
   where
@@ -128,12 +128,12 @@ words-of-place q n = rw (place-shaped q n) (by (q .row) (q .domain) (q .peer) (q
         (λ e _. bare-words 13 d p w e)
         (λ h _ m. absurd (m h))
 
--- TESTS OF A PLACE. What is asked of a place, and not of Invalid, is asked of its numbers: that they fit, and of the place
+-- TESTS OF A PLACE. A test that Invalid fails is a test of the numbers: that they fit, and that their place passes
 pub where-fits : (f : Place → Bool) → f Invalid ≡ false → (x : Place) (c b : Bool) → f x ≡ c → f (cond b x Invalid) ≡ b && c
 where-fits f n x c true e = e
 where-fits f n x c false e = n
 
--- a test that one row passes, which has no part
+-- a test that only one row passes, a row without parts
 pub one-row :
     (f : Place → Bool) (k : ℕ) → f Invalid ≡ false → parts (shape k) ≡ 0 → ((r d p w : ℕ) → f (shaped (shape r) d p w) ≡ eqb r k) → (q : PlaceWords) →
     eqb (q .row) k && (eqb (q .domain) 0 && (eqb (q .peer) 0 && eqb (q .word) 0)) ≡ f (place-of q)
@@ -153,7 +153,7 @@ pub watch-numbers : (q : PlaceWords) → eqb (q .row) 12 && (eqb (q .domain) 0 &
 unfolding is-watch
 watch-numbers = one-row is-watch 12 refl refl (λ r d p w. by-row (λ r. is-watch (shaped (shape r) d p w) ≡ eqb r 12) r refl refl refl refl refl refl refl refl refl refl refl refl refl refl (λ m. rw (beyond r m, ne-eqb r 12 (omega arith))))
 
--- a place of another row than Idle's
+-- a place with another row number is not Idle
 pub not-idle : (p : Place) → eqb (words-of p .row) 0 ≡ false → p ≢ Idle
 not-idle p f e = eqb-false _ _ f (ap (λ x. words-of x .row) e)
 
@@ -205,12 +205,12 @@ unfolding numbers-at store-numbers
 numbers-other q i j x n =
     rw (getD-set-other (q .rows) i j (x .row) 0 n, getD-set-other (q .domains) i j (x .domain) 0 n, getD-set-other (q .peers) i j (x .peer) 0 n, getD-set-other (q .words) i j (x .word) 0 n)
 
--- a place stored again
+-- storing a thread's numbers again changes nothing
 pub numbers-again : (q : PlaceArrays) (i : ℕ) → store-numbers q i (numbers-at q i) ≡ q
 unfolding numbers-at store-numbers
 numbers-again q i = rw (set-getD (q .rows) i 0, set-getD (q .domains) i 0, set-getD (q .peers) i 0, set-getD (q .words) i 0)
 
--- a store keeps what holds of every place, and the room
+-- a store keeps what holds for every place, and the lengths of the arrays
 pub numbers-all :
     (Q : ℕ → PlaceWords → Type 0) (q : PlaceArrays) (i : ℕ) (x : PlaceWords) → Has-room q i → Q i x → ((j : ℕ) → Q j (numbers-at q j)) → (j : ℕ) →
     Q j (numbers-at (store-numbers q i x) j)
@@ -246,7 +246,7 @@ pub fresh-room : Places-room (fresh-words .places)
 unfolding fresh-words
 fresh-room = record { rows = refl; domains = refl; peers = refl; words = refl }
 
--- beyond the room every place has the numbers of Idle
+-- beyond the arrays every place has the numbers of Idle
 pub numbers-beyond : (q : PlaceArrays) (i : ℕ) → Places-room q → 256 ≤ i → numbers-at q i ≡ place-words 0 0 0 0
 unfolding numbers-at
 numbers-beyond q i r h =

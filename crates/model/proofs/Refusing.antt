@@ -1,4 +1,4 @@
--- Tests in order: what an answer says of them.
+-- Tests in order: what an answer implies about them.
 use mathlib.Core.Path.{_≡_, refl, ap, _∙_}
 use mathlib.Core.Bool.{Bool, true, false, cond}
 use mathlib.Core.List.{List, [], _∷_, _++_}
@@ -11,7 +11,7 @@ use Rattle.model.specs.Refusals.{Refusal, refusal, accepted, Test, lowes
 use Rattle.model.specs.Laws.{Numbered}
 use Rattle.model.proofs.Tests.{or-neither}
 
--- a test that finds no bad place gives the answer of those after it
+-- if a test finds no bad place, the answer is that of the tests after it
 pub lowest-none : (n : ℕ) (f : ℕ → Bool) (k p : ℕ) (r : Refusal) → ((j : ℕ) → j < k → f (p + j) ≡ false) → lowest-bad n f k p r ≡ r
 unfolding lowest-bad
 lowest-none n f zero p r h = refl
@@ -19,7 +19,7 @@ lowest-none n f (suc k) p r h =
     let here : f p ≡ false = rw add-zero at (h 0 (omega arith)) in
     rw here (lowest-none n f k (suc p) r (λ j l. let z : suc p + j ≡ p + suc j = omega arith in rw z (h (suc j) (omega arith))))
 
--- an answer of number 0: no bad place, and number 0 after it
+-- if the answer has number 0, no place is bad, and the later tests answer 0
 pub lowest-passes :
     (n : ℕ) (f : ℕ → Bool) (k p : ℕ) (r : Refusal) → 0 < n → lowest-bad n f k p r .number ≡ 0 →
     ((j : ℕ) → j < k → f (p + j) ≡ false) × (r .number ≡ 0)
@@ -47,13 +47,13 @@ tests-pass x xs h e =
     let r = lowest-passes (x .number) (x .bad) (x .places) 0 (first-refusal xs) h e in
     (λ p l. let z : 0 + p ≡ p = omega arith in rw z at (r .0 p l), r .1)
 
--- a list whose first test passes answers as the others do
+-- if the first test of a list passes, the others give the answer
 pub test-skipped : (x : Test) (xs : List Test) → ((p : ℕ) → p < x .places → x .bad p ≡ false) → first-refusal (x ∷ xs) ≡ first-refusal xs
 unfolding first-refusal
 test-skipped x xs h =
     lowest-none (x .number) (x .bad) (x .places) 0 (first-refusal xs) (λ p l. let z : 0 + p ≡ p = omega arith in rw z (h p l))
 
--- numbers that are computed and are not 0
+-- a list whose numbers are not 0, by computation
 pub numbered : (xs : List Test) → has-number xs 0 ≡ false → Numbered xs
 unfolding has-number Numbered
 numbered [] e = tt
@@ -62,7 +62,7 @@ numbered (x ∷ xs) e =
     let n = eqb-false (x .number) 0 (both .0) in
     (omega arith, numbered xs (both .1))
 
--- two lists that refuse nothing: the first refuses nothing
+-- if two joined lists refuse nothing, the first refuses nothing
 pub first-passes : (xs ys : List Test) → Numbered xs → first-refusal (xs ++ ys) .number ≡ 0 → first-refusal xs .number ≡ 0
 unfolding Numbered first-refusal accepted refusal
 first-passes [] ys n e = refl

@@ -1,4 +1,4 @@
--- Stores one after another in a buffer: joined, and at its front.
+-- Consecutive stores in a buffer: joined, and at its front.
 use mathlib.Core.Path.{_≡_, refl, sym, ap, _∙_}
 use mathlib.Core.List.{List, [], _∷_, _++_}
 use mathlib.Core.Logic.{_≢_}
@@ -8,7 +8,7 @@ use native.Mathlib.Nat.{add-zero}
 use lib.ListN.{length, set, drop}
 use lib.Seq.{sets, set-comm, sets-eq}
 
--- a store after the places that others fill may come first
+-- a store after the places that others fill may be done first
 pub sets-after : (l : List ℕ) (i : ℕ) (vs : List ℕ) (j a : ℕ) → i + length vs ≤ j → sets (set l j a) i vs ≡ set (sets l i vs) j a
 sets-after l i [] j a h = refl
 sets-after l i (v ∷ vs) j a h =
@@ -21,7 +21,7 @@ sets-append l i (x ∷ xs) ys =
     let e : i + suc (length xs) ≡ suc i + length xs = omega arith in
     rw e (sets-append (set l i x) (suc i) xs ys)
 
--- the last of several stores may come first
+-- the last of several stores may be done first
 pub sets-last : (l : List ℕ) (i : ℕ) (xs : List ℕ) (a : ℕ) → sets l i (xs ++ (a ∷ [])) ≡ sets (set l (i + length xs) a) i xs
 sets-last l i xs a = sets-append l i xs (a ∷ []) ∙ sym (sets-after l i xs (i + length xs) a (omega arith))
 
@@ -29,7 +29,7 @@ sets-last l i xs a = sets-append l i xs (a ∷ []) ∙ sym (sets-after l i xs (i
 pub sets-front : (l ws : List ℕ) → length ws ≤ length l → sets l 0 ws ≡ ws ++ drop (length ws) l
 sets-front l ws h = let e : 0 + length ws ≡ length ws = omega arith in rw (sets-eq ws l 0 (omega arith), e)
 
--- some stores one after another, each one place further, are one store of them all
+-- consecutive stores, each one index further, are one store of them all
 abbrev pub stores : List ℕ → (at k : ℕ) → List ℕ → List ℕ
 stores l at k [] = l
 stores l at k (x ∷ xs) = stores (set l (at + k) x) at (k + 1) xs

@@ -16,7 +16,7 @@ use Rattle.model.specs.Cases.Ticket.{ticket-alone, two-in-ticket, three-
 use Rattle.model.proofs.Walks.{walked, zero-from, first-pass, formed-by-walks, zipped}
 use Rattle.model.proofs.Computing.{walked-step, walked-refusal, holds-by-walks, all-hold-by-walks, case-sized, all-sized, same-cases}
 
--- the states that they hand in are whole
+-- the states that the cases pass in are complete
 ticket-cases-sized : all-sized ticket-cases ≡ true
 unfolding numbers-at store-numbers fresh-words counters with-numbers ticket-cases case-sized all-sized
 ticket-cases-sized = refl
@@ -33,7 +33,7 @@ unfolding any-below filter-below all-below read-word tree-of is-ticket is-child 
     formed-by-walks walked-step walked-refusal holds-by-walks all-hold-by-walks
 ticket-cases-hold = same-cases ticket-cases ticket-cases-sized ∙ refl
 
--- a raise that shows several
+-- one Raise shows several members
 pub several-shown : Several-shown
 unfolding any-below filter-below read-word tree-of meets on-path child-from child own-record place-of is-watch numbers-at store-numbers fresh-words is-watched shown-members padded tree at-ticket-root three-in-ticket Several-shown
 several-shown = refl

@@ -1,4 +1,4 @@
--- Facts about trees: what is read of their words, and of accepted trees: paths by index, records and members, where paths meet, allowances.
+-- Facts about trees: which of their words are read; and for accepted trees, paths by index, records and members, where paths meet, allowances.
 pub mod Reading
 pub mod Index
 pub mod Accepted

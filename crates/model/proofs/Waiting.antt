@@ -1,4 +1,4 @@
--- The row of Wait by what its status says: not granted, granted the domain, or granted the lock.
+-- The row of Wait, by its status: not granted, granted the domain, or granted the lock.
 use mathlib.Core.Path.{_≡_, refl, _∙_}
 use mathlib.Core.Bool.{true}
 use mathlib.Core.Logic.{_≢_}
@@ -25,7 +25,7 @@ module _ (t : Tree) (i : ℕ) (s : State) where
       by (wait-passed _ z e f a) = absurd (e (v ∙ rw (ne-eqb l 0 z)))
       by (wait-crossed _ z e f a) = absurd (e (v ∙ rw (ne-eqb l 0 z)))
 
-  -- granted the domain: its count starts, and the parent is acquired
+  -- granted the domain: its count starts, and the parent is acquired next
   pub acquiring-row : (l : ℕ) → l ≢ 0 → status s (own-record t i l) ≡ acquire-parent → wait-row t i l s ≡ acquires-parent t i l s
   acquiring-row l n v = by (wait-branch t i s l)
     where
@@ -37,7 +37,7 @@ module _ (t : Tree) (i : ℕ) (s : State) where
       by (wait-passed _ z e f a) = absurd (f v)
       by (wait-crossed _ z e f a) = absurd (f v)
 
-  -- what a thread that is granted the lock does: it enters, by the kind that its domain says
+  -- a thread that is granted the lock enters; its domain gives the kind
   pub data Granted (l : ℕ) : Row-result → Type 0 where
     granted-root : l ≡ 0 → Granted l (enters root-entry i s)
     granted-inner : l ≢ 0 → (k : Kind) → is-entry k ≡ true → Granted l (enters k i s)

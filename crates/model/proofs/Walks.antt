@@ -1,4 +1,4 @@
--- WALKS: a test of every word of an array by its index walks the array once for each word. Walked once it gives the same; so whether a state is well formed is computed by walks.
+-- SINGLE PASSES: testing every word of an array by its index goes through the array once for each word. A single pass gives the same result, so well-formedness is computed by single passes.
 use mathlib.Core.Path.{_≡_, refl, sym, ap, _∙_}
 use mathlib.Core.Bool.{Bool, true, false, _&&_, cond}
 use mathlib.Core.List.{List, [], _∷_}
@@ -21,7 +21,7 @@ use Rattle.model.specs.Counters.{good-count, good-counts, count-above, a
 use Rattle.model.proofs.Tests.{and-both, and-true, or-false, all-same}
 use Rattle.model.proofs.Laws.Counters.{zero-fits-test}
 
--- every element passes, each with its index, from one on
+-- every element passes a test with its index; the first index is given
 unfoldable pub walked : {A : Type 0} → (ℕ → A → Bool) → ℕ → List A → Bool
 walked f k [] = true
 walked f k (x ∷ xs) = f k x && walked f (suc k) xs
@@ -30,13 +30,13 @@ and-assoc : (a b c : Bool) → (a && b) && c ≡ a && (b && c)
 and-assoc true b c = refl
 and-assoc false b c = refl
 
--- the first number apart instead of the last
+-- the first number is split off instead of the last
 first-apart : (n : ℕ) (f : ℕ → Bool) → all-below (suc n) f ≡ f 0 && all-below n (λ k. f (suc k))
 unfolding all-below
 first-apart zero f = sym (and-true (f 0))
 first-apart (suc n) f = ap (λ b. b && f (suc n)) (first-apart n f) ∙ and-assoc (f 0) (all-below n (λ k. f (suc k))) (f (suc n))
 
--- a test of every index of an array is a walk over it
+-- a test of every index of an array is a single pass over it
 pub walk : {A : Type 0} (f : ℕ → A → Bool) (d : A) (k : ℕ) (xs : List A) → all-below (length xs) (λ n. f (k + n) (getD xs n d)) ≡ walked f k xs
 unfolding all-below walked
 walk f d k [] = refl
@@ -48,13 +48,13 @@ walk f d k (x ∷ xs) =
     ∙ ap (λ b. f k x && b)
     (all-same (length xs) (λ n. g (suc n)) (λ n. f (suc k + n) (getD xs n d)) (λ n _. ap (λ j. f j (getD xs n d)) (omega arith)) ∙ walk f d (suc k) xs)
 
--- the same of a whole array
+-- the same for a whole array
 whole : {A : Type 0} (f : ℕ → A → Bool) (d : A) (n : ℕ) (xs : List A) → length xs ≡ n → all-below n (λ k. f k (getD xs k d)) ≡ walked f 0 xs
 whole f d n xs h =
     all-same n (λ k. f k (getD xs k d)) (λ k. f (0 + k) (getD xs k d)) (λ k _. ap (λ j. f j (getD xs k d)) (omega arith))
     ∙ rw (sym h) (walk f d 0 xs)
 
--- ROOM THAT IS ALL ZERO passes, so that what lies after the first n numbers is not asked: every number there is 0
+-- A TAIL OF ZEROS passes, so it is not tested: every number after the first n is 0
 unfoldable pub zero-from : (first : ℕ) → List ℕ → Bool
 zero-from n [] = true
 zero-from zero (v ∷ vs) = eqb v 0 && zero-from zero vs
@@ -68,7 +68,7 @@ zero-at zero (v ∷ vs) e (suc d) h = zero-at zero vs (and-both (eqb v 0) (zero-
 zero-at (suc n) (v ∷ vs) e zero h = absurd (omega arith)
 zero-at (suc n) (v ∷ vs) e (suc d) h = zero-at n vs e d (omega arith)
 
--- a test of the 64 domains, of the first n where those after them are known to pass
+-- a test of the 64 domains, reduced to the first n if those after them are known to pass
 unfoldable pub first-pass : (zeros : Bool) → (n : ℕ) → (ℕ → Bool) → Bool
 first-pass b n f = cond (b && leb n 64) (all-below n f) (all-below 64 f)
 
@@ -89,7 +89,7 @@ same-first b n f p = by (b && leb n 64) refl
     by true e = let both = and-both b (leb n 64) e in fewer n 64 f (leb-true n 64 (both .1)) (p (both .0))
     by false e = refl
 
--- the same of a test that some domain is to meet
+-- the same for a test that some domain must pass
 unfoldable pub first-meets : (zeros : Bool) → (n : ℕ) → (ℕ → Bool) → Bool
 first-meets b n f = cond (b && leb n 64) (any-below n f) (any-below 64 f)
 
@@ -110,7 +110,7 @@ same-met b n f p = by (b && leb n 64) refl
     by true e = let both = and-both b (leb n 64) e in fewer-met n 64 f (leb-true n 64 (both .1)) (p (both .0))
     by false e = refl
 
--- THE ROOM of a state: its long arrays are whole
+-- THE LENGTHS of a state's long arrays
 pub record Sized (s : State) : Type 0 where
   pub nexts : length (s .nexts) ≡ 320
   pub statuses : length (s .statuses) ≡ 320
@@ -157,7 +157,7 @@ tails-same t s =
 abbrev pub thread-walked : Tree → State → (thread : ℕ) → PlaceWords → Bool
 thread-walked t s i q = thread-fits t i (place-of q) (watch-fits t s i (place-of q))
 
--- well formed, by walks
+-- well-formedness by single passes
 unfoldable pub formed-by-walks : Tree → State → Bool
 formed-by-walks t s =
     (tails-walked t s && walked (next-fits t) 0 (s .nexts))
@@ -175,7 +175,7 @@ unfolding well-formed formed-by-walks good-next good-status good-thread good-wat
 same-formed t s h =
     rw (tails-same t s, whole (next-fits t) 0 320 (s .nexts) (h .nexts), whole (status-fits t) 0 320 (s .statuses) (h .statuses), places-same (thread-walked t s) (s .places) (h .places))
 
--- THE COUNTERS, whose room after the domains of the tree is 0
+-- THE COUNTERS; their slots after the domains of the tree are 0
 abbrev pub zeros-from : (first : ℕ) → Counters → Bool
 zeros-from n c = zero-from n (c .entries) && (zero-from n (c .tenures) && zero-from n (c .longest))
 
@@ -190,7 +190,7 @@ zeros-at n c e d h =
     let b = and-both (zero-from n (c .tenures)) (zero-from n (c .longest)) (a .1) in
     record { entries = zero-at n (c .entries) (a .0) d h; tenures = zero-at n (c .tenures) (b .0) d h; longest = zero-at n (c .longest) (b .1) d h }
 
--- they are good where they are 0, and none of them is above 2^63
+-- counters that are 0 are good, and not above 2^63
 zeros-good : (t : Tree) (c : Counters) (d : ℕ) → Zeros c d → good-count t c d ≡ true
 unfolding good-count
 zeros-good t c d z = rw (z .entries, z .tenures, z .longest, zero-fits-test t d, leb·zero _)

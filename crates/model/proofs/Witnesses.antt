@@ -34,7 +34,7 @@ use Rattle.model.proofs.Laws.Counters.{fresh-good, fresh-room, room-law
 use Rattle.model.proofs.Laws.Refusals.{tree-numbered, run-numbered-before-19}
 use Rattle.model.proofs.ClaimCases.{below-three}
 
--- a schedule whose entries pass a test
+-- whether all entries of a schedule are threads
 unfoldable known : Tree → List ℕ → Bool
 known t [] = true
 known t (i ∷ is) = ltb i (t .threads) && known t is

@@ -18,7 +18,7 @@ use Rattle.model.specs.Refusals.{tree-refusal, bad-counter, step-refusal
 use Rattle.model.specs.Answers.{counters-after-run, step-answer, run-answer, trace-answer}
 use Rattle.model.specs.Laws.{All-threads, Sixteen-bit, Formed}
 
--- 1. COUNTERS ADD UP. Behind some steps the entries and tenures of a domain are those before and what the steps count, the longest is the largest of the one before and the lengths told; no other index moves, and steps after steps add up
+-- 1. COUNTERS ADD UP. After some steps the entries and tenures of a domain are those before plus what the steps count, and the longest is the largest of the one before and the lengths reported; the arrays keep their lengths, and steps after steps add up
 pub record Counts-steps (t : Tree) (c : Counters) (xs : List Step) : Type 0 where
   pub entries : (d : ℕ) → d < length (c .entries) → getD (counters-after t c xs .entries) d 0 ≡ getD (c .entries) d 0 + domain-entries t d xs
   pub tenures : (d : ℕ) → d < length (c .tenures) → getD (counters-after t c xs .tenures) d 0 ≡ getD (c .tenures) d 0 + domain-tenures t d xs

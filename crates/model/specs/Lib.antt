@@ -1,4 +1,4 @@
--- In the order of document 01, then of document 02: what a reader must believe. The laws' proofs are in proofs/.
+-- The definitions that a reader must trust, in the order of documents 01 and 02. The proofs of the laws are in proofs/.
 pub mod Scans
 pub mod Trees
 pub mod Places

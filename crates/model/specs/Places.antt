@@ -1,5 +1,5 @@
--- A thread's place in four numbers: row, domain, the other record, word.
-use mathlib.Core.Bool.{Bool, true, false, _&&_, _||_, cond}
+-- A thread's place as four numbers: row, domain, the other record, word.
+use mathlib.Core.Bool.{Bool, _&&_, _||_, cond}
 use mathlib.Core.List.{List, [], _∷_}
 use Prim.Native.Nat.{ℕ}
 use lib.Dec.{eqb, ltb}
@@ -8,6 +8,7 @@ use Rattle.model.specs.declared.PlaceWords.{PlaceWords}
 use Rattle.model.specs.declared.Place.{Place}
 use Rattle.model.specs.declared.Place.the-variants.{Idle, Prep, Swap, Link, Wait, Inside, Check, Help, Cas, Linger, Grant, Draw, Watch, Raise, Invalid}
 
+-- the four numbers of a place
 abbrev pub place-words : (row domain peer word : ℕ) → PlaceWords
 place-words r d p w = record { row = r; domain = d; peer = p; word = w }
 
@@ -29,32 +30,34 @@ words-of Watch = place-words 12 0 0 0
 words-of Raise = place-words 13 0 0 0
 words-of Invalid = place-words 14 0 0 0
 
--- THE TABLE OF ROWS: where a place of a row stands, and which parts it has beside its row. The parts are those that the place's constructor takes
+-- THE TABLE OF ROWS: where a place of each row is, and which parts it has. The parts are the arguments of the place's constructor
 pub data Shape : Type 0 where
   -- at the thread's home: no part
   at-home : Place → Shape
   -- in the queue of a domain
   at-queue : ((domain : ℕ) → Place) → Shape
-  -- in a domain that is not the root
+  -- in a domain other than the root
   below-root : ((domain : ℕ) → Place) → Shape
-  -- in the queue of a domain, before a member's record
+  -- in the queue of a domain, with another member's record
   with-record : ((domain peer : ℕ) → Place) → Shape
-  -- in the queue of a domain, before a member's record, with a word for it
+  -- in the queue of a domain, with another member's record and a word for it
   with-word : ((domain peer word : ℕ) → Place) → Shape
-  -- at the root, a ticket lock: no part
+  -- at a ticket root: no part
   at-ticket-lock : Place → Shape
   -- no row of the table
   no-row : Shape
 
+-- the shapes of rows 0 to 13
 abbrev pub shapes : List Shape
 shapes =
     at-home Idle ∷ at-queue Prep ∷ at-queue Swap ∷ with-record Link ∷ at-queue Wait ∷ at-home Inside ∷ below-root Check ∷ at-queue Help ∷ at-queue Cas
     ∷ at-queue Linger ∷ with-word Grant ∷ at-ticket-lock Draw ∷ at-ticket-lock Watch ∷ at-ticket-lock Raise ∷ []
 
+-- the shape of a row
 abbrev pub shape : (row : ℕ) → Shape
 shape r = getD shapes r no-row
 
--- how many parts a shape has, of a domain, a record and a word in this order
+-- how many parts a shape has, out of domain, record and word in this order
 abbrev pub parts : Shape → ℕ
 parts (at-home x) = 0
 parts (at-queue f) = 1
@@ -64,20 +67,23 @@ parts (with-word f) = 3
 parts (at-ticket-lock x) = 0
 parts no-row = 0
 
+-- places of this row name a domain
 abbrev pub has-domain : (row : ℕ) → Bool
 has-domain r = ltb 0 (parts (shape r))
 
+-- places of this row name another record
 abbrev pub has-peer : (row : ℕ) → Bool
 has-peer r = ltb 1 (parts (shape r))
 
+-- places of this row have a word
 abbrev pub has-word : (row : ℕ) → Bool
 has-word r = ltb 2 (parts (shape r))
 
--- each part that the row lacks is 0
+-- each part that the row does not have is 0
 abbrev pub fits : PlaceWords → Bool
 fits q = (has-domain (q .row) || eqb (q .domain) 0) && ((has-peer (q .row) || eqb (q .peer) 0) && (has-word (q .row) || eqb (q .word) 0))
 
--- the place of a row, of the parts that it has
+-- the place of a row, from the parts that it has
 abbrev pub shaped : Shape → (domain peer word : ℕ) → Place
 shaped (at-home x) d p w = x
 shaped (at-queue f) d p w = f d
@@ -87,7 +93,7 @@ shaped (with-word f) d p w = f d p w
 shaped (at-ticket-lock x) d p w = x
 shaped no-row d p w = Invalid
 
--- the place of four numbers; Invalid where the row is none of the table's, or a part that the row lacks is not 0
+-- the place that four numbers stand for; Invalid if there is no such row, or if a part that the row does not have is not 0
 unfoldable pub place-of : PlaceWords → Place
 place-of q = cond (fits q) (shaped (shape (q .row)) (q .domain) (q .peer) (q .word)) Invalid
 
@@ -95,59 +101,19 @@ place-of q = cond (fits q) (shaped (shape (q .row)) (q .domain) (q .peer) (q .wo
 abbrev pub same-row : Place → Place → Bool
 same-row p q = eqb (words-of p .row) (words-of q .row)
 
+-- the place is Idle
 unfoldable pub is-idle : Place → Bool
-is-idle Idle = true
-is-idle (Prep l) = false
-is-idle (Swap l) = false
-is-idle (Link l p) = false
-is-idle (Wait l) = false
-is-idle Inside = false
-is-idle (Check l) = false
-is-idle (Help l) = false
-is-idle (Cas l) = false
-is-idle (Linger l) = false
-is-idle (Grant l s w) = false
-is-idle Draw = false
-is-idle Watch = false
-is-idle Raise = false
-is-idle Invalid = false
+is-idle p = same-row p Idle
 
+-- the place is Inside
 unfoldable pub is-inside : Place → Bool
-is-inside Idle = false
-is-inside (Prep l) = false
-is-inside (Swap l) = false
-is-inside (Link l p) = false
-is-inside (Wait l) = false
-is-inside Inside = true
-is-inside (Check l) = false
-is-inside (Help l) = false
-is-inside (Cas l) = false
-is-inside (Linger l) = false
-is-inside (Grant l s w) = false
-is-inside Draw = false
-is-inside Watch = false
-is-inside Raise = false
-is-inside Invalid = false
+is-inside p = same-row p Inside
 
--- the thread watches the grant of a ticket lock
+-- the place is Watch: the thread watches the grant of a ticket lock
 unfoldable pub is-watch : Place → Bool
-is-watch Idle = false
-is-watch (Prep l) = false
-is-watch (Swap l) = false
-is-watch (Link l p) = false
-is-watch (Wait l) = false
-is-watch Inside = false
-is-watch (Check l) = false
-is-watch (Help l) = false
-is-watch (Cas l) = false
-is-watch (Linger l) = false
-is-watch (Grant l s w) = false
-is-watch Draw = false
-is-watch Watch = true
-is-watch Raise = false
-is-watch Invalid = false
+is-watch p = same-row p Watch
 
--- the domain of a place; Idle and Inside are at home, the places of a ticket lock at the root
+-- the domain of a place: the home for Idle and Inside, the root for the places of a ticket lock
 abbrev pub place-domain : (home : ℕ) → Place → ℕ
 place-domain h Idle = h
 place-domain h (Prep l) = l

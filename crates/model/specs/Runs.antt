@@ -1,4 +1,4 @@
--- Runs: steps one after another, and what is counted of them.
+-- Runs: a sequence of steps, and what is counted over it.
 use mathlib.Core.Bool.{Bool, cond}
 use mathlib.Core.List.{List, [], _∷_, _++_}
 use Prim.Native.Nat.{ℕ, _+_}
@@ -14,12 +14,12 @@ unfoldable pub steps : Tree → (schedule : List ℕ) → State → List Step
 steps t [] s = []
 steps t (i ∷ is) s = let x = step t i s in x ∷ steps t is (x .state)
 
--- the state after the last of some steps
+-- the state after the last step
 unfoldable pub state-after : State → List Step → State
 state-after s [] = s
 state-after s (x ∷ xs) = state-after (x .state) xs
 
--- how many of the steps are of a kind
+-- how many steps have a kind that passes
 unfoldable pub how-many : (Kind → Bool) → List Step → ℕ
 how-many f [] = 0
 how-many f (x ∷ xs) = cond (f (x .kind)) 1 0 + how-many f xs
@@ -29,7 +29,7 @@ unfoldable pub entering : List Step → List ℕ
 entering [] = []
 entering (x ∷ xs) = cond (is-entry (x .kind)) (x .thread ∷ []) [] ++ entering xs
 
--- steps (stays among them), entries, stays, root entries, passed entries, crossed entries, each counted from the steps
+-- steps (stays included), entries, stays, root entries, passed entries and crossed entries, each counted over the steps
 unfoldable pub counts-of : List Step → Counts
 counts-of xs =
     record {
@@ -41,36 +41,38 @@ counts-of xs =
       crossed = how-many (is-kind crossed-entry) xs;
     }
 
--- a run: what is counted of its steps; the trace; the state after the last step
+-- a run: its counts, its trace, and the state after its last step
 pub record Run : Type 0 where
   pub counts : Counts
   pub trace : List ℕ
   pub state : State
 
--- what some steps from a state come to
+-- the run that consists of these steps from a state
 unfoldable pub run-of : State → List Step → Run
 run-of s xs = record { counts = counts-of xs; trace = entering xs; state = state-after s xs }
 
+-- the run of a schedule from a state
 unfoldable pub run : Tree → (schedule : List ℕ) → State → Run
 run t is s = run-of s (steps t is s)
 
--- the members that a step has begin, or end, standing ungranted in a domain
+-- the members that begin to stand ungranted with a step
 unfoldable pub begun-in : Standing → List ℕ
 begun-in unchanged = []
 begun-in (begins m) = m ∷ []
 begun-in (ends ms) = []
 
+-- the members whose standing ungranted ends with a step
 unfoldable pub ended-in : Standing → List ℕ
 ended-in unchanged = []
 ended-in (begins m) = []
 ended-in (ends ms) = ms
 
--- the members at the beginnings of standing ungranted in a domain, a member once for each time
+-- the members that begin to stand ungranted in a domain, in order, once for each beginning
 unfoldable pub begun : (domain : ℕ) → List Step → List ℕ
 begun d [] = []
 begun d (x ∷ xs) = cond (eqb (x .domain) d) (begun-in (x .standing)) [] ++ begun d xs
 
--- the members at the ends
+-- the members whose standing ungranted ends in a domain, in order, once for each end
 unfoldable pub ended : (domain : ℕ) → List Step → List ℕ
 ended d [] = []
 ended d (x ∷ xs) = cond (eqb (x .domain) d) (ended-in (x .standing)) [] ++ ended d xs
@@ -80,7 +82,7 @@ unfoldable pub entries-under : Tree → (member : ℕ) → List Step → ℕ
 entries-under t q [] = 0
 entries-under t q (x ∷ xs) = cond (is-entry (x .kind)) (cond (under t q (x .thread)) 1 0) 0 + entries-under t q xs
 
--- how often a number is in a list
+-- how often a number occurs in a list
 unfoldable pub occurrences : ℕ → List ℕ → ℕ
 occurrences m [] = 0
 occurrences m (x ∷ xs) = cond (eqb m x) 1 0 + occurrences m xs

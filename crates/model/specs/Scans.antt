@@ -1,4 +1,4 @@
--- Tests over all numbers below a bound, and whether all tests of a list hold.
+-- Tests over all numbers below a bound, and over a list.
 use mathlib.Core.Bool.{Bool, true, false, _&&_, _||_, cond}
 use mathlib.Core.List.{List, [], _∷_, _++_}
 use Prim.Native.Nat.{ℕ, zero, suc, max}
@@ -13,7 +13,7 @@ unfoldable pub all-below : ℕ → (ℕ → Bool) → Bool
 all-below zero f = true
 all-below (suc n) f = all-below n f && f n
 
--- the largest value below n; 0 where there is none
+-- the largest value for a number below n; 0 if n is 0
 unfoldable pub largest-below : ℕ → (ℕ → ℕ) → ℕ
 largest-below zero f = 0
 largest-below (suc n) f = max (largest-below n f) (f n)
@@ -23,7 +23,7 @@ unfoldable pub filter-below : ℕ → (ℕ → Bool) → List ℕ
 filter-below zero f = []
 filter-below (suc n) f = filter-below n f ++ cond (f n) (n ∷ []) []
 
--- every test of a list holds
+-- every test of a list passes
 abbrev pub all : List Bool → Bool
 all [] = true
 all (b ∷ bs) = b && all bs

@@ -1,6 +1,6 @@
-// The words that cross a call. Numbers only, laid out as C lays them out, so that a C++ host can hold them.
+// The structs of the C interface. They contain only numbers, in C layout, so that a C++ host can hold them.
 
-// Status words: of a member's record below the root, and of one at the root.
+// Status words of a record: below the root, and at the root.
 pub const COHORT_START: u64 = 1;
 
 pub const ACQUIRE_PARENT: u64 = 18446744073709551614;
@@ -11,7 +11,7 @@ pub const UNLOCKED: u64 = 0;
 
 pub const LOCKED: u64 = 1;
 
-// Kinds of a step, by their numbers.
+// The numbers of the kinds of a step.
 pub const STAY: u8 = 0;
 
 pub const OTHER_MOVE: u8 = 1;
@@ -24,7 +24,7 @@ pub const CROSSED_ENTRY: u8 = 4;
 
 pub const LEAVING: u8 = 5;
 
-// A tree with its threads. The root's parent and threshold, and room that the tree lacks, are not read. At the root is a queue where ticket_root is 0, a ticket lock where it is any other number.
+// A tree with its threads. The root's parent and threshold and the unused slots are not read. The root is a queue if ticket_root is 0, a ticket lock if it is any other number.
 #[repr(C)]
 pub struct TreeWords {
     pub domains: u32,
@@ -35,7 +35,7 @@ pub struct TreeWords {
     pub ticket_root: u32,
 }
 
-// A thread's place: a row of the step table (0 Idle to 13 Raise), its domain, the other record that it names, its word. A part that the row lacks is 0.
+// A thread's place: a row of the step table (0 Idle to 13 Raise), its domain, the other record that it names, its word. A part that the row does not have is 0.
 #[repr(C)]
 pub struct PlaceWords {
     pub row: u8,
@@ -44,7 +44,7 @@ pub struct PlaceWords {
     pub word: u64,
 }
 
-// The places of all threads: an array for each number of a place.
+// The places of all threads: one array for each number of a place.
 #[repr(C)]
 pub struct PlaceArrays {
     pub rows: [u8; 256],
@@ -53,7 +53,7 @@ pub struct PlaceArrays {
     pub words: [u64; 256],
 }
 
-// The words of a lock. A tail or a next is 0 for none, else the record's number + 1. The counters ticket and grant are those of a ticket lock at the root. Fresh is 0 throughout, but for these two, which a fresh call may start at another number.
+// The words of a lock. A tail or a next is 0 for none, else the record's number + 1. The counters ticket and grant belong to a ticket lock at the root. In a fresh lock every word is 0, except these two, which a fresh call may start at another number.
 #[repr(C)]
 pub struct State {
     pub tails: [u16; 64],
@@ -64,7 +64,7 @@ pub struct State {
     pub grant: u16,
 }
 
-// Of each domain but the root its threads' entries, its tenures and its longest tenure; of the root and of room that the tree lacks 0. No step reads them. Fresh is 0 throughout.
+// For each domain except the root, the entries of its threads, its tenures and its longest tenure; 0 for the root and in unused slots. No step reads them. All are 0 in a fresh lock.
 #[repr(C)]
 pub struct Counters {
     pub entries: [u64; 64],
@@ -72,14 +72,14 @@ pub struct Counters {
     pub longest: [u64; 64],
 }
 
-// A lock state as it crosses a call: the words of the lock, and the counters.
+// A lock state as calls take and return it: the words of the lock, and the counters.
 #[repr(C)]
 pub struct LockState {
     pub words: State,
     pub counters: Counters,
 }
 
-// A thread's place as the step table names it; Invalid where four numbers are no place.
+// A thread's place as in the step table; Invalid if the four numbers are no place.
 pub enum Place {
     Idle,
     Prep(u8),
@@ -98,13 +98,13 @@ pub enum Place {
     Invalid,
 }
 
-// What the search for a domain's child on a thread's path finds: the child, and how many domains it looked at.
+// The result of the search for a domain's child on a thread's path: the child, and how many domains it looked at.
 pub struct Found {
     pub child: u8,
     pub looked: u32,
 }
 
-// What is counted of a run's steps: all of them, stays among them; entries, stays, root entries, passed entries, crossed entries.
+// The counts of a run: all steps, stays included; entries, stays, root entries, passed entries, crossed entries.
 #[repr(C)]
 pub struct Counts {
     pub steps: u32,
@@ -115,7 +115,7 @@ pub struct Counts {
     pub crossed: u32,
 }
 
-// What the three calls return. Number 0 is accepted.
+// What the three calls return. Number 0 means accepted.
 #[repr(C)]
 pub struct FreshReply {
     pub number: u32,

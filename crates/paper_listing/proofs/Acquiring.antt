@@ -38,7 +38,7 @@ pub record Together (t : Tree) (i : ℕ) (s : State) (x : Row-result) (y : After
 abbrev pub standing : Control → State → After
 standing c s = record { thread = c; memory = memory-of s }
 
--- what a step does to the places: thread i's is stored, or all stay
+-- what a step does to the places: it stores thread i's, or changes none
 pub data Puts (s n : State) (i : ℕ) (p : Place) : Type 0 where
   moved : n .places ≡ store-numbers (s .places) i (words-of p) → Puts s n i p
   stayed : n .places ≡ s .places → place s i ≡ p → Puts s n i p
@@ -52,7 +52,7 @@ puts-elsewhere {s} {n} {i} {p} (moved e) j d = rw e (ap place-of (numbers-other 
 puts-elsewhere {s} {n} {i} {p} (stayed e q) j d = rw e
 
 module _ (t : Tree) (valid : Accepted t) (i : ℕ) (h : i < t .threads) (s : State) (room : Has-room (s .places) i) where
-  -- what a domain's lines leave, at the root or elsewhere
+  -- the control after a domain's lines corresponds to a place, at the root or elsewhere
   swap-control : (k : ℕ) → k ≤ height t i → Corresponds t i (control (at-root (ancestor t i k) line-67 line-9) (acquire-stack t i k)) (Swap (ancestor t i k))
   swap-control k l = c-swap k l
 
@@ -62,11 +62,11 @@ module _ (t : Tree) (valid : Accepted t) (i : ℕ) (h : i < t .threads) (s : Sta
   wait-control : (k : ℕ) → k ≤ height t i → Corresponds t i (control (at-root (ancestor t i k) line-72 line-13) (acquire-stack t i k)) (Wait (ancestor t i k))
   wait-control k l = c-wait k l
 
-  -- what an entry of the listing comes to, beside a step whose state is known
+  -- the result of an entry of the listing, compared with a step whose state is known
   pub together : {x : Row-result} {y : After} (z : After) (p : Place) → y ≡ z → z .memory ≡ memory-of (x .state) → Puts s (x .state) i p → Corresponds t i (z .thread) p → Together t i s x y
   together z p e m q c = rw e (record { memory = m; place-there = p; there = puts-there room q; elsewhere = puts-elsewhere q; corresponds = c })
 
-  -- the call of AcquireReal at the parent
+  -- the control at the call of AcquireReal for the parent
   climb-control : (k : ℕ) → k < height t i →
       Corresponds t i (acquire-real t (ancestor t i (suc k)) (256 + ancestor t i k) after-17 (acquire-stack t i k)) (acquire-place t (ancestor t i (suc k)))
   unfolding acquire-real acquire-back acquire-callers record-at
@@ -94,7 +94,7 @@ module _ (t : Tree) (valid : Accepted t) (i : ℕ) (h : i < t .threads) (s : Sta
       (together (goes line-9 (acquire-stack t i k) _) (Swap (ancestor t i k)) (prep-elsewhere t i (ancestor t i k) (record-at t i k) (acquire-back k) (acquire-callers t i k) (memory-of s)) refl
       (moved refl) (rw e at (swap-control k l)))
 
-  -- IDLE, where the home is a queue
+  -- IDLE, if the home has a queue
   pub idle-together : is-ticket t (t .home i) ≡ false → {x : Row-result} → Branch t i s (Prep (t .home i)) x → Together t i s x (entry t i (standing (control outside []) s))
   unfolding memory-of ancestor record-at acquire-back acquire-callers
   idle-together n (prepares _ _ (branches.at-root z)) =
@@ -110,7 +110,7 @@ module _ (t : Tree) (valid : Accepted t) (i : ℕ) (h : i < t .threads) (s : Sta
       rw own
       (together (goes line-9 (acquire-stack t i 0) _) (Swap (t .home i)) (idle-elsewhere t i (memory-of s) n e) refl (moved refl) (rw e at c))
 
-  -- SWAP, after another: at the root and elsewhere
+  -- SWAP, after another record: at the root and elsewhere
   after-together :
       (k : ℕ) → k ≤ height t i → eqb (tail s (ancestor t i k)) 0 ≡ false → (b : Bool) → eqb (ancestor t i k) 0 ≡ b →
       Together t i s (stood-after t i s (ancestor t i k)) (entry t i (standing (control (cond b line-67 line-9) (acquire-stack t i k)) s))

@@ -40,7 +40,7 @@ use Rattle.paper_listing.proofs.Tickets.{draw-together, idle-draw-toget
 use Rattle.paper_listing.proofs.Differing.{not-differing}
 use Rattle.paper_listing.proofs.Standing.{Acquires, acquires, Releases, releases, Helps, helps, stands, stood}
 
--- ONE ENTRY, by the place where the thread stands
+-- ONE ENTRY, by the thread's place
 module _ (t : Tree) (valid : Accepted t) (i : ℕ) (h : i < t .threads) (s : State) (room : Has-room (s .places) i) (wide : length (s .statuses) ≡ 320) (small : (r : ℕ) → status s r ≤ wait-word)
     (by-equality : (l : ℕ) → place s i ≡ Check l → row t i (Check l) s ≡ equality-check-row t i l s) where
   idle-by : (c : Bool) → is-ticket t (t .home i) ≡ c → Together t i s (cond c (draw-row t i s) (prep-row t i (t .home i) s)) (entry t i (standing (control outside []) s))
@@ -66,7 +66,7 @@ module _ (t : Tree) (valid : Accepted t) (i : ℕ) (h : i < t .threads) (s : Sta
   row-together q (c-watch k l e) = watch-together t valid i h s room k l e q (watch-branch t i s)
   row-together q (c-raise k fs l e x) = raise-together t valid i h s room k l e fs x (raise-branch t i s)
 
-  -- so from every control that stands at the place
+  -- so it does from every control at the place
   along-calls : {L : ℕ} {fs : List Frame} (x : Acquires t i L fs) (A : ℕ → List Frame → Type 0) → A (ancestor t i (x .index)) (acquire-stack t i (x .index)) → A L fs
   along-calls x A a = rw (← x .calls, ← x .there) a
 
@@ -76,7 +76,7 @@ module _ (t : Tree) (valid : Accepted t) (i : ℕ) (h : i < t .threads) (s : Sta
   along-help : {L : ℕ} {fs : List Frame} (x : Helps t i L fs) (A : ℕ → List Frame → Type 0) → A (ancestor t i (x .index)) (helper-stack t i (x .index) (x .back) (x .callers)) → A L fs
   along-help x A a = rw (← x .calls, ← x .there) a
 
-  -- what is shown of a control at a place
+  -- what is proved for a control at a place
   abbrev Row : Control → Place → Type 0
   Row c p = place s i ≡ p → Together t i s (row t i p s) (entry t i (standing c s))
 
@@ -136,7 +136,7 @@ module _ (t : Tree) (valid : Accepted t) (i : ℕ) (h : i < t .threads) (s : Sta
       let x = releases t valid i h a in
       λ q. row-together q (c-raise (x .index) fs (x .within) (x .there) (x .stack))
 
--- a control that corresponds to a place stands there by the table of points
+-- the table of points gives the place to which a control corresponds
 corresponding : {t : Tree} {i : ℕ} {c : Control} {p : Place} → Corresponds t i c p → place-of-control c ≡ p
 unfolding place-of-control place-at called-place ticket-place top-domain top-back acquire-back
 corresponding c-idle = refl
@@ -172,7 +172,7 @@ corresponding (c-draw k l e) = refl
 corresponding (c-watch k l e) = refl
 corresponding (c-raise k fs l e x) = refl
 
--- WHERE THE TESTS DIFFER. A control at Check goes to Grant where the table releases the parent: above the threshold, with a next
+-- WHERE THE TESTS DIFFER. At Check, the listing goes to Grant and the table releases the parent: above the threshold, with a next
 module _ (t : Tree) (valid : Accepted t) (i : ℕ) (h : i < t .threads) (s : State) (room : Has-room (s .places) i) where
   check-only :
       (k : ℕ) → k < height t i → (fs : List Frame) → Release-stack t i k fs → place s i ≡ Check (ancestor t i k) →
@@ -185,7 +185,7 @@ module _ (t : Tree) (valid : Accepted t) (i : ℕ) (h : i < t .threads) (s : Sta
       let same : place (row t i (Check l) s .state) i ≡ place (equality-check-row t i l s .state) i = sym (rw q at d) ∙ corresponding (z .corresponds) ∙ sym (z .there) in
       not-differing t i s l room same
 
-  -- by the place where it stands
+  -- for each place
   only-same :
       {c : Control} {p : Place} → Stands-at t i c p → place s i ≡ p → place-of-control (entry t i (standing c s) .thread) ≡ place (step t i s .state) i → Same-test t i s
   unfolding Same-test

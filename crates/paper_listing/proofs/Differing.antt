@@ -1,4 +1,4 @@
--- Where the listing's test of a Check and the table's give different places: above the threshold, with a next.
+-- Where the listing's test in Check and the table's test give different places: above the threshold, with a next.
 use mathlib.Core.Path.{_≡_, sym, _∙_}
 use mathlib.Core.Bool.{Bool, true, false, cond}
 use mathlib.Core.Logic.{_≢_, _⊎_, inl, inr}
@@ -36,7 +36,7 @@ module _ (t : Tree) (i : ℕ) (s : State) (l : ℕ) (room : Has-room (s .places)
       rw (ne-eqb (status s (own-record t i l)) (t .threshold l) (λ z. omega arith), ne-eqb (next s (own-record t i l)) none some)
       (place-stored i (Grant l (next s (own-record t i l) - 1) (status s (own-record t i l) + 1)) s room)
 
-  -- the same place from both means that the test is the same
+  -- if both lead to the same place, the tests agree
   pub not-differing :
       place (row t i (Check l) s .state) i ≡ place (equality-check-row t i l s .state) i →
       (status s (own-record t i l) ≤ t .threshold l) ⊎ (next s (own-record t i l) ≡ none)

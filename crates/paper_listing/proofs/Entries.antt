@@ -1,4 +1,4 @@
--- What one schedule entry takes of the listing, at each point where a thread stands.
+-- What one schedule entry executes of the listing, at each point of a thread.
 use mathlib.Core.Path.{_≡_, refl, ap, _∙_}
 use mathlib.Core.Bool.{Bool, true, false, cond}
 use mathlib.Core.List.{List, [], _∷_}
@@ -10,17 +10,17 @@ use Rattle.paper_listing.specs.Calls.{Memory, lock-at, status-at, store-
 use Rattle.paper_listing.specs.Listing.{line, top-domain, top-node, top-back, next-line}
 use Rattle.paper_listing.specs.Agreement.{called-place, ticket-place, place-at, place-of-control, is-place, settle, entry}
 
--- a thread stands there between entries
+-- a point at which a thread can be between entries
 abbrev pub Stands : Control → Type 0
 Stands c = is-place (place-of-control c) ≡ true
 
 module _ (t : Tree) (i : ℕ) where
-  -- an entry goes on through a point where no thread stands
+  -- an entry continues through any other point
   pub through : (n : ℕ) (x y : After) → is-place (place-of-control (x .thread)) ≡ false → next-line t i x ≡ y → settle (suc n) t i x ≡ settle n t i y
   unfolding settle
   through n x y e d = rw e (ap (settle n t i) d)
 
-  -- and ends where one stands
+  -- and ends at such a point
   pub there : (n : ℕ) (x : After) → Stands (x .thread) → settle (suc n) t i x ≡ x
   unfolding settle
   there n x e = rw e
@@ -29,7 +29,7 @@ module _ (t : Tree) (i : ℕ) where
   unfolding entry
   begins x y d = ap (settle 8 t i) d
 
-  -- IDLE at a queue: the call, and line 7 or 66, before which nobody stands
+  -- IDLE, if the home has a queue: the call, and line 7 or 66, before which no entry ends
   pub idle-elsewhere :
       (m : Memory) → is-ticket t (t .home i) ≡ false → eqb (t .home i) 0 ≡ false → entry t i (goes outside [] m) ≡ goes line-9 (frame (t .home i) i from-acquire ∷ []) (store-next i none (store-status i wait-word m))
   unfolding next-line line acquire-real top-domain top-node top-back place-of-control place-at called-place is-place
@@ -50,7 +50,7 @@ module _ (t : Tree) (i : ℕ) where
     abbrev all : List Frame
     all = frame l r b ∷ fs
 
-    -- the end of a call: it stands, or goes on at line 31 or 43
+    -- an entry ends at the beginning of a call of AcquireReal
     call-stands : (d n : ℕ) (callers : List Frame) → Stands (acquire-real t d n after-17 callers)
     unfolding acquire-real place-of-control place-at called-place ticket-place is-place top-domain top-back
     call-stands d n callers = by (is-ticket t d) (eqb d 0)

@@ -1,4 +1,4 @@
--- How the listing and the step table are shown to agree.
+-- The proof that the listing and the step table agree.
 pub mod Stacks
 pub mod Entries
 pub mod Acquiring

@@ -28,7 +28,7 @@ use Rattle.paper_listing.proofs.Returning.{released-at, leaves, check-r
 use Rattle.paper_listing.proofs.Acquiring.{Together, standing, moved, stayed, together}
 
 module _ (t : Tree) (valid : Accepted t) (i : ℕ) (h : i < t .threads) (s : State) (room : Has-room (s .places) i) where
-  -- a call of ReleaseReal at an index, where it stands
+  -- the control at a call of ReleaseReal at an index
   released :
       (k : ℕ) (b : Return) (fs : List Frame) → k ≤ height t i → Release-stack t i k (frame (ancestor t i k) (record-at t i k) b ∷ fs) → (a c : Bool) → is-ticket t (ancestor t i k) ≡ a → eqb (ancestor t i k) 0 ≡ c →
       Corresponds t i
@@ -50,7 +50,7 @@ module _ (t : Tree) (valid : Accepted t) (i : ℕ) (h : i < t .threads) (s : Sta
       together t valid i h s room (record { thread = released-at t (t .home i) i from-release []; memory = memory-of s }) p (leaves t i (memory-of s)) refl
       (moved refl) (released 0 from-release [] (omega arith) at-home _ _ refl refl)
 
-  -- CHECK, by equality as the listing has it
+  -- CHECK, by equality as in the listing
   module _ (k : ℕ) (b : k < height t i) where
     abbrev L : ℕ
     L = ancestor t i k

@@ -1,4 +1,4 @@
--- What one schedule entry takes of Release, ReleaseReal and ReleaseHelper.
+-- What one schedule entry executes of Release, ReleaseReal and ReleaseHelper.
 use mathlib.Core.Path.{_≡_, refl, _∙_}
 use mathlib.Core.Bool.{Bool, true, false, cond}
 use mathlib.Core.List.{List, [], _∷_}
@@ -19,7 +19,7 @@ use Rattle.paper_listing.specs.Agreement.{ticket-place, place-at, place-
 use Rattle.paper_listing.proofs.Stacks.{Release-stack, at-home, by-29, by-41, top-domain-at, top-node-at, of-31, of-43, Corresponds, c-idle, c-help}
 use Rattle.paper_listing.proofs.Entries.{through, there, begins}
 
--- where a call of ReleaseReal stands: at a queue root it has called ReleaseHelper
+-- the point after a call of ReleaseReal: at a queue root it has called ReleaseHelper
 abbrev pub released-at : Tree → (domain node : ℕ) → Return → List Frame → Control
 released-at t d n b fs =
     cond (is-ticket t d) (control (ticket-lock line-92) (frame d n b ∷ fs))
@@ -122,7 +122,7 @@ module _ (t : Tree) (i : ℕ) where
     unfolding next-line line top-domain top-node place-of-control place-at is-place
     linger-sees v e = begins t i (goes (line-58 v) all m) (goes (line-59 (next-at m r - 1) v) all m) (rw e) ∙ there t i 7 _ refl
 
-  -- THE END of a domain's release: the thread is outside, or helps one down
+  -- THE END of a domain's release: the thread is outside, or helps one domain lower
   pub record Ended (k : ℕ) (x : After) (m : Memory) : Type 0 where
     pub thread : Control
     pub same : settle 8 t i x ≡ record { thread = thread; memory = m }

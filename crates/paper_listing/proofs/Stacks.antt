@@ -24,13 +24,13 @@ acquire-callers t i (suc k) = frame (ancestor t i k) (record-at t i k) (acquire-
 abbrev pub acquire-stack : Tree → (thread index : ℕ) → List Frame
 acquire-stack t i k = frame (ancestor t i k) (record-at t i k) (acquire-back k) ∷ acquire-callers t i k
 
--- all of them end together
+-- all of them return together
 pub acquired : (t : Tree) (i k : ℕ) → returns (acquire-stack t i k) ≡ control critical []
 unfolding returns goes-back acquire-back acquire-callers
 acquired t i zero = refl
 acquired t i (suc k) = acquired t i k
 
--- CALLS OF ReleaseReal: each higher one made by line 29 or 41
+-- CALLS OF ReleaseReal: each call at a higher domain is made by line 29 or 41
 pub data Release-stack (t : Tree) (i : ℕ) : ℕ → List Frame → Type 0 where
   at-home : Release-stack t i 0 (frame (ancestor t i 0) (record-at t i 0) from-release ∷ [])
   by-29 : (k : ℕ) (fs : List Frame) → Release-stack t i k fs → Release-stack t i (suc k) (frame (ancestor t i (suc k)) (record-at t i (suc k)) after-29 ∷ fs)
@@ -48,7 +48,7 @@ top-node-at at-home = refl
 top-node-at (by-29 k fs x) = refl
 top-node-at (by-41 k fs x) = refl
 
--- a call of ReleaseHelper, after which its caller ends
+-- a call of ReleaseHelper whose caller returns after it
 pub data Helper-back : Return → Type 0 where
   of-31 : Helper-back after-31
   of-43 : Helper-back after-43
@@ -63,7 +63,7 @@ helper-returns l r fs of-31 = refl
 helper-returns l r fs of-43 = refl
 helper-returns l r fs of-82 = refl
 
--- the first template's line, or the root's
+-- the line of the first template, or of the root's
 abbrev pub at-root : (domain : ℕ) → (root elsewhere : Point) → Point
 at-root l a b = cond (eqb l 0) a b
 

@@ -1,4 +1,4 @@
--- Where a thread stands, by the calls that it has made and by the index on its path: each the other.
+-- Where a thread is, by its calls and by the index on its path: each determines the other.
 use mathlib.Core.Path.{_≡_, refl, sym, ap, _∙_}
 use mathlib.Core.Bool.{true, not, false≢true}
 use mathlib.Core.List.{List, [], _∷_}
@@ -22,7 +22,7 @@ use Rattle.paper_listing.specs.Agreement.{Acquiring, acquire-home, by-17
 use Rattle.paper_listing.proofs.Stacks.{acquire-back, acquire-callers, acquire-stack, Release-stack, at-home, top-node-at, Helper-back, of-31, of-43, of-82, helper-stack, Corresponds, c-idle, c-prep, c-swap, c-link, c-wait, c-inside, c-check, c-pass, c-help, c-cas, c-linger, c-55, c-59, c-draw, c-watch, c-raise}
 use Rattle.paper_listing.proofs.Stacks as stacks
 
--- an index on the thread's path with the calls made there
+-- an index on the thread's path, with the calls made there
 pub record Acquires (t : Tree) (i L : ℕ) (fs : List Frame) : Type 0 where
   pub index : ℕ
   pub within : index ≤ height t i
@@ -101,7 +101,7 @@ module _ (t : Tree) (valid : Accepted t) (i : ℕ) (h : i < t .threads) where
   helps (by-43 L fs a) = helper _ L fs of-43 (releases a)
   helps (by-82 L fs a) = helper _ L fs of-82 (releases a)
 
-  -- FROM THE INDEX TO CALLS
+  -- FROM THE INDEX TO THE CALLS
   inner : (k : ℕ) → k < height t i → ancestor t i k ≢ 0
   inner k b e = absurd (omega (arith, ancestor-inner t valid i h k b, e))
 
@@ -167,14 +167,14 @@ module _ (t : Tree) (valid : Accepted t) (i : ℕ) (h : i < t .threads) where
   help-at : (L : ℕ) → queue-on-path t i L ≡ true → Calls (Helping t i L)
   help-at L e = let x = release-at L (queue-facts t i L e .0) in record { made = _; so = by-31 L (x .made) (x .so) }
 
-  -- and so has the root
+  -- and so does the root
   acquire-root : Acquiring t i 0 (acquire-stack t i (height t i))
   acquire-root = acquired-there (ancestor-root t valid i h) (acquiring (height t i) (omega arith))
 
   release-root : Releasing t i 0 (release-calls (height t i) .made)
   release-root = released-there (ancestor-root t valid i h) (releasing (omega arith) (release-calls (height t i) .so))
 
-  -- so each place of a well-formed state has a control that stands there
+  -- so each good place has a control
   pub record Stood (p : Place) : Type 0 where
     pub by : Control
     pub standing : Stands-at t i by p

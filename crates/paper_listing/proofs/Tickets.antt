@@ -28,15 +28,15 @@ use Rattle.paper_listing.proofs.Entries.{through, there, begins}
 use Rattle.paper_listing.proofs.Acquiring.{Together, standing, moved, stayed, together}
 use Rattle.paper_listing.proofs.Returning.{ended}
 
--- the memory behind line 90
+-- the memory after line 90
 abbrev taken : (node : ℕ) → Memory → Memory
 taken r m = store-ticket (wrap (m .ticket + 1)) (store-status r (m .ticket) m)
 
--- where a test of line 91 goes, by its outcome
+-- the control after a test of line 91, by its outcome
 abbrev tested : Bool → List Frame → Control
 tested c fs = cond c (control critical []) (control (ticket-lock line-91-again) fs)
 
--- WHAT AN ENTRY TAKES
+-- WHAT AN ENTRY EXECUTES
 module _ (t : Tree) (i : ℕ) where
   module _ (l r : ℕ) (b : Return) (fs : List Frame) (m : Memory) where
     abbrev all : List Frame
@@ -47,14 +47,14 @@ module _ (t : Tree) (i : ℕ) where
     tested-stands n true = there t i n (goes critical [] m) refl
     tested-stands n false = there t i n (goes (ticket-lock line-91-again) all m) refl
 
-    -- the first test, in the entry that took the ticket
+    -- the first test, in the entry that takes the ticket
     tests-first :
         (n : ℕ) (c : Bool) → eqb (status-at m r) (m .grant) ≡ c → returns all ≡ control critical [] →
         settle (suc (suc n)) t i (goes (ticket-lock line-91) all m) ≡ record { thread = tested c all; memory = m }
     unfolding next-line line ticket-line tests-grant top-domain top-node place-of-control place-at ticket-place is-place
     tests-first n c e a = through t i (suc n) (goes (ticket-lock line-91) all m) (record { thread = tested c all; memory = m }) refl (rw (e, a)) ∙ tested-stands n c
 
-    -- a later one
+    -- a later test
     tests-again :
         (c : Bool) → eqb (status-at m r) (m .grant) ≡ c → returns all ≡ control critical [] →
         entry t i (goes (ticket-lock line-91-again) all m) ≡ record { thread = tested c all; memory = m }
@@ -68,7 +68,7 @@ module _ (t : Tree) (i : ℕ) where
         begins t i (goes (ticket-lock line-90) (frame l r b ∷ fs) m) (goes (ticket-lock line-91) (frame l r b ∷ fs) (taken r m)) refl
         ∙ tests-first l r b fs (taken r m) 6 c e a
 
-  -- Idle at a ticket root: the call and line 90, before which nobody stands
+  -- Idle at a ticket root: the call and line 90, before which no entry ends
   draws-at-home :
       (m : Memory) (c : Bool) → eqb (status-at (taken i m) i) (m .grant) ≡ c → is-ticket t (t .home i) ≡ true → returns (frame (t .home i) i from-acquire ∷ []) ≡ control critical [] →
       entry t i (goes outside [] m) ≡ record { thread = tested c (frame (t .home i) i from-acquire ∷ []); memory = taken i m }
@@ -85,7 +85,7 @@ module _ (t : Tree) (valid : Accepted t) (i : ℕ) (h : i < t .threads) (s : Sta
     root-record-at : own-record t i 0 ≡ record-at t i k
     root-record-at = rw root at (own-record-at t valid i h k l)
 
-    -- what the first test reads is the ticket
+    -- the first test reads the ticket
     status-taken : length (s .statuses) ≡ 320 → status-at (taken (record-at t i k) (memory-of s)) (record-at t i k) ≡ s .ticket
     unfolding memory-of
     status-taken wide = getD-set-same (s .statuses) (record-at t i k) (s .ticket) 0 (omega (arith, wide, record-small t valid i h k l))
@@ -141,7 +141,7 @@ module _ (t : Tree) (valid : Accepted t) (i : ℕ) (h : i < t .threads) (s : Sta
         (begins t i (goes (ticket-lock line-92) fs (memory-of s)) (record { thread = returns fs; memory = m }) refl ∙ z .same) refl
         (moved refl) (z .corresponds))
 
-  -- IDLE, where the home is a ticket root
+  -- IDLE, if the home is a ticket root
   pub idle-draw-together : length (s .statuses) ≡ 320 → is-ticket t (t .home i) ≡ true → Together t i s (draw-row t i s) (entry t i (standing (control outside []) s))
   unfolding memory-of ancestor record-at acquire-back acquire-callers
   idle-draw-together wide n =

@@ -1,4 +1,4 @@
--- Listing 1 of the paper on HMCS locks (source document 000), line by line. Fences are left out; docs/LISTING.md holds the lines beside the step table.
+-- Listing 1 of the paper on HMCS locks (source document 000), line by line. Fences are left out; docs/LISTING.md shows the lines next to the step table.
 use mathlib.Core.Bool.{cond}
 use mathlib.Core.List.{List, [], _∷_}
 use Prim.Native.Nat.{ℕ, _+_, _-_}
@@ -8,9 +8,9 @@ use Rattle.model.specs.States.{cohort-start, acquire-parent, wait-word, unlocke
 use Rattle.paper_listing.specs.Calls.{Memory, lock-at, next-at, status-at, store-lock, store-next, store-status, Return, from-acquire, from-release, after-17, after-29, after-31, after-41, after-43, after-82, Frame, Point, outside, critical, line-7, line-9, line-10, line-11, line-13, line-14, line-16, line-17, line-25, line-27, line-29, line-31, line-35, line-36, line-37, line-41, line-43, line-53, line-54, line-55, line-57, line-58, line-59, line-66, line-67, line-68, line-69, line-71, line-72, line-82, ticket-lock, control, After, goes, acquire-real, release-real, release-helper, returns}
 use Rattle.paper_listing.specs.TicketLock.{ticket-line}
 
--- ONE LINE of thread i, in a call with L and I, all calls fs, memory m
+-- ONE LINE of thread i, in a call with L and I; fs are all its calls, m the memory
 unfoldable pub line : Tree → (i : ℕ) → Point → (L I : ℕ) → (fs : List Frame) → (m : Memory) → After
--- 20 or 77: AcquireReal(L, I) of the thread's home and record, which begins with line 7, 66 or 90
+-- 20 or 77: AcquireReal(L, I) of the thread's home and record, which starts with line 7, 66 or 90
 line t i outside L I fs m = record { thread = acquire-real t (t .home i) i from-acquire []; memory = m }
 -- 7: I->status = WAIT; I->next = NULL;
 line t i line-7 L I fs m = goes line-9 fs (store-next I none (store-status I wait-word m))
@@ -78,19 +78,22 @@ line t i line-82 L I fs m = record { thread = release-helper L I unlocked after-
 -- 90 to 92: the ticket lock, in place of lines 63 to 89
 line t i (ticket-lock p) L I fs m = ticket-line p I fs m
 
+-- L of the innermost call; 0 without a call
 unfoldable pub top-domain : List Frame → ℕ
 top-domain [] = 0
 top-domain (f ∷ fs) = f .domain
 
+-- I of the innermost call; 0 without a call
 unfoldable pub top-node : List Frame → ℕ
 top-node [] = 0
 top-node (f ∷ fs) = f .node
 
+-- where the innermost call returns
 unfoldable pub top-back : List Frame → Return
 top-back [] = from-release
 top-back (f ∷ fs) = f .back
 
--- the next line of a thread's control
+-- the next line of a thread
 unfoldable pub next-line : Tree → (i : ℕ) → After → After
 next-line t i x =
     line t i (x .thread .point) (top-domain (x .thread .frames)) (top-node (x .thread .frames)) (x .thread .frames) (x .memory)

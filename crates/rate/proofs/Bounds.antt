@@ -1,4 +1,4 @@
--- Bounds of whole numbers: what two 16-bit numbers make fits 32 bits and is exact as a float.
+-- Bounds of whole numbers: the products of 16-bit numbers fit in 32 bits and are exact as floats.
 use Prim.Native.Nat.{ℕ, _-_, _*_, _^_, _≤_, _<_}
 use native.Mathlib.Nat.{le-trans, lt-of-le-of-lt, mul-le-mul}
 use native.Mathlib.Omega.{arith}

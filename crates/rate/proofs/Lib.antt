@@ -1,4 +1,4 @@
--- The proofs of the laws and the cases; each function's own stands in its folder.
+-- The proofs of the laws and the cases; the proof of each function is in its folder.
 pub mod Bounds
 pub mod Operations
 pub mod Tests

@@ -1,4 +1,4 @@
--- Floats that are finite and not negative, as fractions num / den: what each operation does to them, and the bounds that rounding keeps.
+-- Finite floats that are not negative, as fractions num / den: the result of each operation, and the bounds that rounding keeps.
 use mathlib.Core.Path.{_≡_, refl, sym, ap, _∙_, subst}
 use mathlib.Core.Bool.{Bool, true, false, _&&_, _||_, cond, true≢false}
 use Prim.Native.Nat.{ℕ, zero, suc, _+_, _-_, _*_, _/_, _%_, _^_, _≤_, _<_, compare}
@@ -89,7 +89,7 @@ core-clear n c k = units-clear (nearest (n / (c * 2 ^ k)) (compare (n % (c * 2 ^
 round-clear : (a c : ℕ) → Sign-clear (round binary64 false a c)
 round-clear a c = subst Sign-clear (sym (round-is binary64 false a c)) (core-clear (a * 2 ^ low binary64) c (size (a * 2 ^ low binary64 / c) - prec binary64))
 
--- what is at most a finite value is finite
+-- a value that is at most a finite one is finite
 natural-under : (x y : Float) (k : ℕ) → Sign-clear x → HasValue y false k 1 → T (le x y) → Natural x
 unfolding le
 natural-under nan y k p h t = absurd p
@@ -99,7 +99,7 @@ natural-under (inf false) (inf s) k p h t = absurd h
 natural-under (inf false) (fin s n d) k p h t = absurd t
 natural-under (fin s m e) y k p h t = p
 
--- the order as one of fractions
+-- the order of floats as the order of fractions
 lt-or-eq : (a b : ℕ) (x y : Bool) → ltb a b ≡ x → eqb a b ≡ y → T (x || (y && true)) → a ≤ b
 lt-or-eq a b true y p q t = le-of-lt (ltb→lt a b (subst T (sym p) tt))
 lt-or-eq a b false true p q t = le-of-eq (eqb→eq a b (subst T (sym q) tt))
@@ -131,7 +131,7 @@ round-at-most a c k C K h =
     let w : num x * den y ≤ k * den y * den x = subst (λ (z : ℕ). num x * den y ≤ z * den x) u (crossed x y n (natural-of-value y k 1 v) l) in
     record { natural = n; most = le-of-mul-le-mul-right (subst (λ (z : ℕ). num x * den y ≤ z) (mul-right-comm k (den y) (den x)) w) (den-pos y) }
 
--- and 1/1024 as a lower one
+-- and 1/1024 as a lower bound
 abbrev pub From-least : Float → Type 0
 From-least x = den x ≤ num x * 1024
 
@@ -186,7 +186,7 @@ whole-natural n h = natural-of-value (as-float n) n 1 (exact n h)
 whole-num : (n : ℕ) → n ≤ 2 ^ 53 → num (as-float n) ≡ n * den (as-float n)
 whole-num n h = sym (mul-one (num (as-float n))) ∙ value→cross (as-float n) n 1 (exact n h)
 
--- so a product and a quotient with one are that of the whole number itself, rounded once
+-- so a product or quotient with one is the product or quotient with the whole number, rounded once
 pub mul-whole : (n : ℕ) (y : Float) → n ≤ 2 ^ 53 → Natural y → mul binary64 (as-float n) y ≡ round binary64 false (n * num y) (den y)
 mul-whole n y h q =
     let x = as-float n in

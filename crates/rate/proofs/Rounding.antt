@@ -17,7 +17,7 @@ use Rattle.rate.specs.Laws.{In-range, Accepted, Rounding-law, Rate-law}
 use Rattle.rate.proofs.Bounds.{product-at-most, one-less}
 use Rattle.rate.proofs.Operations.{natural-of-positive, At-most, From-least, round-at-most, positive-from-least, add-is, add-at-most, add-from-least, exact, mul-whole, div-whole, num-above-zero}
 
--- a time is at most 1,048,576, and a product with it at most as many times the whole number
+-- a time is at most 1,048,576, and its product with a whole number at most 1,048,576 times the number
 time-at-most : (x : Float) → In-range x → At-most 1048576 x
 time-at-most x r = record { natural = natural-of-positive x (r .finite-above-zero); most = r .to-most }
 
@@ -27,7 +27,7 @@ product-bound n y h r =
     (round-at-most (n * num y) (den y) (n * 1048576) (den-pos y) (omega arith)
     (subst (λ (z : ℕ). n * num y ≤ z) (sym (mul-assoc n 1048576 (den y))) (mul-le-mul-left n (r .to-most))))
 
--- a quotient of a whole number from 1 on by a float from 1/1024 to 2 ^ 53: it lies from 2 ^ -53 to 1024 times the number
+-- a quotient of a whole number of at least 1 by a float from 1/1024 to 2 ^ 53 is between 2 ^ -53 and 1024 times the number
 smallest-positive : T (positive (round binary64 false 1 (2 ^ 53)))
 unfolding round
 smallest-positive = tt
@@ -53,7 +53,7 @@ quotient-positive n j y n-above n-most j-most p g =
     (round-mono binary64 1 (2 ^ 53) (n * den y) (num y) (lit< tt) z (quotient-least n j (num y) (den y) n-above j-most (p .most)))
     (round-mono binary64 (n * den y) (num y) (n * 1024) 1 z (lit< tt) (quotient-most n (num y) (den y) g))
 
--- BOUNDS of an accepted rate's parts, one after another
+-- BOUNDS of an accepted rate's parts, in order
 pub record Bounded (h1 h2 : ℕ) (p : PassingTimes) : Type 0 where
   pub entries-most : entries h1 h2 ≤ 4294836225
   pub p2-most : p2-passes h2 ≤ 65534

@@ -1,4 +1,4 @@
--- The answer by its five tests, and the laws of times and answers.
+-- The answer, given its five tests, and the laws of times and answers.
 use mathlib.Core.Path.{_≡_, refl, sym, ap, _∙_, subst}
 use mathlib.Core.Bool.{Bool, true, false, not, cond}
 use Prim.Native.Nat.{ℕ, _<_}
@@ -18,7 +18,7 @@ use Rattle.rate.specs.Rate.{shortest-time, longest-time, is-time, passin
 use Rattle.rate.specs.Answers.{zero-threshold, bad-time, rate-tests, rate-refusal, answer-of, rate-answer}
 use Rattle.rate.specs.Laws.{In-range, Time-law, Accepted, Answer-law}
 
--- the answer by the outcomes of its tests, in their order: a threshold is 0, twice, and a time is in range, three times
+-- the answer by the results of its tests, in their order: whether a threshold is 0, twice, and whether a time is in range, three times
 abbrev pub tested : (h1-zero h2-zero p1-good p2-good p3-good : Bool) → (rate : Float) → RateAnswer
 tested true b c d e x = Refused 8 1
 tested false true c d e x = Refused 8 2
@@ -50,7 +50,7 @@ abbrev Is-rate : RateAnswer → Type 0
 Is-rate (Rate x) = Unit {0}
 Is-rate (Refused n p) = ⊥
 
--- the outcomes with which the answer is a rate
+-- the results with which the answer is a rate
 pub record All-good (a b c d e : Bool) : Type 0 where
   pub h1-not-zero : a ≡ false
   pub h2-not-zero : b ≡ false

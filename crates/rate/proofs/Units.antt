@@ -1,4 +1,4 @@
--- With both thresholds 1 the products are 0, adding 0 keeps a value that the format holds, and the rate is 1 over p3.
+-- With both thresholds 1 the products are 0, adding 0 does not change a value of the format, and the rate is 1 over p3.
 use mathlib.Core.Path.{_≡_, refl, sym, ap, _∙_, subst}
 use mathlib.Core.Bool.{Bool, true, false, not, _&&_}
 use Prim.Native.Nat.{ℕ, zero, suc, _+_, _-_, _*_, _^_, _≤_, _<_, _%_}
@@ -18,7 +18,7 @@ use Rattle.rate.specs.Rate.{as-float, p2-product, p1-product, outer-time
 use Rattle.rate.specs.Laws.{Accepted, Unit-law}
 use Rattle.rate.proofs.Operations.{Natural, natural-of-positive, natural-of-value, add-is, mul-whole, div-whole, num-above-zero}
 
--- a value that the format holds is exact: rounding keeps it
+-- rounding keeps a value that the format holds
 small-power : (k l : ℕ) → 2 ^ k ≤ 2 ^ l → k ≤ l
 small-power k l h = by (leb k l) refl
   where
@@ -45,7 +45,7 @@ kept-small m k small within =
     (lt-of-lt-of-le (mul-lt-mul-of-pos-right small (pow-pos j)) (subst (λ (z : ℕ). z ≤ 2 ^ 2098) (pow-add 2 53 j) (pow-mono room)))
     (ap (λ (z : ℕ). z * 2 ^ 1074) (mul-one m) ∙ ap (λ (z : ℕ). m * z) e ∙ sym (mul-assoc m (2 ^ j) (2 ^ k)))
 
--- what holding says of a value with an odd m
+-- what follows if the format holds a value other than 0
 held : (m : ℕ) (e : ℤ) → T (fits binary64 (fin false m e)) → 0 < m → (m < 2 ^ 53) × (down e ≤ 2 ^ 1074) × (m * up e < 2 ^ 1024 * down e)
 unfolding fits
 held zero e f h = absurd (lt-irrefl 0 h)
@@ -92,7 +92,7 @@ one-is : as-float 1 ≡ fin false 1 (pos 0)
 unfolding ofInt
 one-is = refl
 
--- the cycle takes p3, rounded, which has the value of p3
+-- the cycle takes p3, rounded, and this has the value of p3
 cycle-is : (p : PassingTimes) → T (fits binary64 (p .p3)) → Accepted 1 1 p → cycle-time 1 1 p ≡ round binary64 false (num (p .p3)) (den (p .p3))
 unfolding p2-product p1-product outer-time cycle-time
 cycle-is p f r =

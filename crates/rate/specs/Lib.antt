@@ -1,4 +1,4 @@
--- In the order of document 02, request (xiii): what a reader must believe about the rate. The laws' proofs are in proofs/.
+-- The definitions about the rate that a reader must trust, in the order of document 02, (xiii). The proofs of the laws are in proofs/.
 pub mod Rate
 pub mod Answers
 pub mod Laws

@@ -4,7 +4,7 @@ ghost use Prim.Native.Nat.{_<_};
 ghost use Rattle.rate.specs.Rate.{is-time, passing-rate};
 ghost use Rattle.rate.specs.Answers.{rate-answer, reply-of};
 
-// How long it takes to pass the lock on: p1 within a home, p2 between homes below one domain, p3 across the root. All in one unit.
+// How long it takes to pass the lock on: p1 within a home, p2 between homes below one domain, p3 across the root, all in one unit.
 #[repr(C)]
 pub struct PassingTimes {
     pub p1: f64,
@@ -12,13 +12,13 @@ pub struct PassingTimes {
     pub p3: f64,
 }
 
-// Either a rate, in entries for one unit of the times, or a refusal.
+// A rate, in entries per unit of the times, or a refusal.
 pub enum RateAnswer {
     Rate(f64),
     Refused { number: u32, place: u32 },
 }
 
-// The same in numbers alone: 0 and 0 with the rate; refused, number and place with the rate 0.
+// The same as numbers: 0 and 0 with the rate; if refused, number and place with rate 0.
 #[repr(C)]
 pub struct RateReply {
     pub number: u32,
@@ -26,7 +26,7 @@ pub struct RateReply {
     pub rate: f64,
 }
 
-// Whether x is a number from 1/1024 to 1,048,576. Both comparisons are false at a NaN.
+// Whether x is a number from 1/1024 to 1,048,576. Both comparisons are false for a NaN.
 fn in_range(x: f64) -> bool
     ensures { λ r. ⌜ r ≡ is-time x ⌝ }
 {
@@ -54,7 +54,7 @@ fn rate_of(h1: u16, h2: u16, times: PassingTimes) -> f64
     entries / cycle
 }
 
-// The rate, or 8 for a threshold of 0, then 24 for a time out of range.
+// The rate, or 8 for a threshold of 0, or 24 for a time out of range.
 pub fn rate(h1: u16, h2: u16, times: PassingTimes) -> RateAnswer
     ensures { λ r. ⌜ r ≡ rate-answer h1 h2 times ⌝ }
 {
@@ -91,7 +91,7 @@ pub fn rate(h1: u16, h2: u16, times: PassingTimes) -> RateAnswer
     RateAnswer::Rate(rate_of(h1, h2, times))
 }
 
-// An answer in numbers alone, for a caller that cannot take an enum.
+// An answer as numbers, for a caller that cannot take an enum.
 pub fn reply(answer: RateAnswer) -> RateReply
     ensures { λ r. ⌜ r ≡ reply-of answer ⌝ }
 {

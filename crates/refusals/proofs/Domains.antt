@@ -1,4 +1,4 @@
--- One walk over the domains: those passed fail none of 6 to 8.
+-- One pass over the domains: those passed so far fail none of 6 to 8.
 use mathlib.Core.Path.{_≡_, refl}
 use mathlib.Core.Bool.{Bool, false}
 use mathlib.Core.List.{List, []}
@@ -18,7 +18,7 @@ pub none-bad : (n : ℕ) (bad : ℕ → Bool) → ((j : ℕ) → j < n → bad j
 none-bad n bad h = record { within = omega arith; passed = h; fails = λ l. absurd (omega arith) }
 
 module _ (n : ℕ) (ps ts : List ℕ) where
-  -- the domains below d
+  -- the domains below d pass
   pub record Passed (ls : List ℕ) (d : ℕ) : Type 0 where
     pub parents : (j : ℕ) → j < d → bad-parent (parents-in n ps) j ≡ false
     pub levels : Levels n ps ls d

@@ -1,4 +1,4 @@
--- Which bytes are no homes, in one pass over the parents.
+-- Which bytes are not valid homes, in one pass over the parents.
 use mathlib.Core.Path.{_≡_, refl, sym, ap, _∙_}
 use mathlib.Core.Bool.{Bool, true, false, _||_, true≢false, false≢true}
 use mathlib.Core.List.{List, []}
@@ -18,7 +18,7 @@ use Rattle.model.proofs.Trees.Reading.{read-in}
 use Rattle.refusals.specs.Arrays.{tree-in, parents-in, no-home-in, No-domains, Unfit-homes, is-home-in, Marked-homes, Homes-are-leaves, differ}
 use Rattle.refusals.proofs.Reading.{parent-in, not-not}
 
--- the bytes below the number of domains
+-- the bytes that are no domain's number
 pub outside-first : No-domains 0 (replicate 256 true)
 outside-first = record { room = refl; no-domain = λ x l. getD-replicate 256 x true false l ∙ sym (le-leb 0 x (omega arith)) }
 
@@ -52,7 +52,7 @@ or-joined true b c = refl
 or-joined false b c = refl
 
 module _ (n : ℕ) (ps : List ℕ) where
-  -- no domain of the tree, or the parent of a domain below d
+  -- what is marked: numbers that are no domain's, and the parents of the domains below d
   pub record Marked (bs : List Bool) (d : ℕ) : Type 0 where
     pub room : length bs ≡ 256
     pub marks : (x : ℕ) → x < 256 → getD bs x false ≡ leb n x || any-below d (is-child (parents-in n ps) x)
@@ -88,7 +88,7 @@ module _ (n : ℕ) (ps : List ℕ) where
             (C .marks x h ∙ ap (λ k. leb n x || any-below k (is-child (parents-in n ps) x)) e);
       }
 
--- THE HOMES of the threads below i, in a table of any size that has room for them
+-- THE HOMES of the threads below i, in a table that is long enough
 module _ (hs : List ℕ) (size : ℕ) where
   pub record Marked-below (bs : List Bool) (i : ℕ) : Type 0 where
     pub room : length bs ≡ size
@@ -114,7 +114,7 @@ module _ (hs : List ℕ) (size : ℕ) where
             ];
       }
 
--- where no byte is marked as often in one table as in the other, homes and leaves are the same
+-- if the two tables differ at every byte, homes and leaves are the same
 abbrev pub alike : (marked bad : List Bool) → ℕ → Bool
 alike ms bs x = differ (getD ms x false) (getD bs x false)
 
@@ -142,14 +142,14 @@ tables-differ n m ps hs ms bs r few marks homes e =
     other-so true b e f = refl
     other-so false b e f = absurd (true≢false (sym e ∙ f))
 
--- a home by that table
+-- whether a home is bad, from that table
 pub home-test :
     (n m : ℕ) (ps hs : List ℕ) (bs : List Bool) (i h : ℕ) → Unfit-homes n ps bs → i < m → h ≡ getD hs i 0 → h < 256 →
     getD bs h false ≡ bad-home (tree-in n m ps [] hs) i
 unfolding bad-home is-leaf is-child tree-of
 home-test n m ps hs bs i h N l e f = rw (read-in 0 m hs i (omega arith) l, ← e) (N .no-home h f)
 
--- the same of the answer that all homes are leaves
+-- the same if the answer was that all homes are leaves
 pub leaf-test :
     (n m : ℕ) (ps hs : List ℕ) (i : ℕ) → i < m → no-home-in n ps (getD hs i 0) ≡ false → bad-home (tree-in n m ps [] hs) i ≡ false
 unfolding bad-home is-leaf is-child tree-of

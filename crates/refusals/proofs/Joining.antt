@@ -1,4 +1,4 @@
--- One list of tests after another: the first decides if it refuses, the other if it does not.
+-- Two lists of tests in sequence: the first decides if it refuses, otherwise the second does.
 use mathlib.Core.Path.{_≡_, refl, _∙_}
 use mathlib.Core.Bool.{Bool, true, false, cond}
 use mathlib.Core.List.{List, [], _∷_, _++_}

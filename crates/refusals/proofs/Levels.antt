@@ -1,4 +1,4 @@
--- Levels in one pass: each domain's from its parent's.
+-- Levels in one pass: the level of each domain from its parent's.
 use mathlib.Core.Path.{_≡_, refl, sym, ap, _∙_}
 use mathlib.Core.Bool.{true, false}
 use mathlib.Core.List.{List, []}
@@ -24,7 +24,7 @@ module _ (n : ℕ) (ps : List ℕ) (low : Lower n ps) where
   unfolding level depth tree-of
   level-root = ap suc (depth-root n (parents-in n ps) 0 refl)
 
--- the levels of the domains below d are few, and are known where each parent has a lower number
+-- the levels of the domains below d are small, and are known if each parent has a lower number
 pub record Levels (n : ℕ) (ps ls : List ℕ) (d : ℕ) : Type 0 where
   pub room : length ls ≡ 64
   pub few : (j : ℕ) → j < d → getD ls j 0 ≤ 6

@@ -1,3 +1,4 @@
+-- Facts about the tests of trees, schedules and runs that the proofs of the functions use.
 pub mod Reading
 pub mod Scanning
 pub mod Levels

@@ -1,4 +1,4 @@
--- The way up from a domain, one step at a time.
+-- Going up from a domain, one step at a time.
 use mathlib.Core.Path.{_≡_, refl}
 use mathlib.Core.Bool.{true, false}
 use mathlib.Core.List.{List, []}
@@ -35,7 +35,7 @@ unfolding meets
 meets-end zero t c d p = refl
 meets-end (suc k) t c d p = absurd (omega arith)
 
--- trees with the same parents
+-- trees with the same parents have the same paths
 pub meets-same : (k : ℕ) (t u : Tree) (c d : ℕ) → ((e : ℕ) → t .parent e ≡ u .parent e) → meets k t c d ≡ meets k u c d
 unfolding meets
 meets-same zero t u c d h = refl

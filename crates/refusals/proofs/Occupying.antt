@@ -1,4 +1,4 @@
--- THREADS UNDER DOMAINS: a walk from the highest domain down marks those on some thread's path; where all leaves are homes, that is every domain.
+-- THREADS UNDER DOMAINS: a loop from the highest domain down marks those on some thread's path; if all leaves are homes, that is every domain.
 use mathlib.Core.Path.{_≡_, refl, sym, ap, _∙_}
 use mathlib.Core.Bool.{Bool, true, false, not, true≢false}
 use mathlib.Core.List.{List, []}
@@ -26,7 +26,7 @@ use Rattle.refusals.proofs.Homes.{leaf-test}
 use Rattle.refusals.proofs.TreeTests.{facts, tree-passes}
 use Rattle.refusals.proofs.Domains.{none-bad}
 
--- a mark stays, and is there where it is made
+-- a mark stays when another is made
 set-true : (bs : List Bool) (p x : ℕ) → p < length bs → getD bs x false ≡ true → getD (set bs p true) x false ≡ true
 set-true bs p x l e =
     elim (ℕ-discrete x p) [ yes z ↦ rw z (getD-set-same bs p true false l) | no z ↦ getD-set-other bs p x true false z ∙ e ]
@@ -36,7 +36,7 @@ module _ (n m : ℕ) (ps hs : List ℕ) where
   t = tree-in n m ps [] hs
 
   module _ (few : n ≤ 64) (some : 0 < n) (low : Lower n ps) (real : Real-homes n m hs) where
-    -- paths stay in the tree and fall
+    -- paths stay in the tree, and their numbers fall
     path-real : (i k : ℕ) → i < m → ancestor t i k < n
     path-real i zero l = rw (ancestor-home, home-in n m ps [] hs i l) (real .real i l)
     path-real i (suc k) l =
@@ -55,7 +55,7 @@ module _ (n m : ℕ) (ps hs : List ℕ) where
     path-falls : (i k : ℕ) → i < m → 0 < ancestor t i k → ancestor t i (suc k) < ancestor t i k
     path-falls i k l p = rw (next-up i k l p) (low .lower (ancestor t i k) p (path-real i k l))
 
-    -- what is marked when the domains above d are done: homes, and the parents of those on a path
+    -- what is marked once the domains numbered above d are done: homes, and the parents of those of them that are on a path
     pub record Marked-down (bs : List Bool) (d : ℕ) : Type 0 where
       pub room : length bs ≡ 64
       pub homes : (i : ℕ) → i < m → getD bs (ancestor t i 0) false ≡ true
@@ -151,7 +151,7 @@ module _ (n m : ℕ) (ps hs : List ℕ) where
 
 -- THE TABLE AND THE TEST
 module _ (w : TreeWords) (valid : Accepted (tree-of w)) where
-  -- paths read neither counts nor thresholds
+  -- paths read neither thresholds nor the kind of root
   ancestor-same : (i k : ℕ) → ancestor (tree-in (w .domains) (w .threads) (w .parents) [] (w .homes)) i k ≡ ancestor (tree-of w) i k
   unfolding ancestor above tree-of
   ancestor-same i zero = refl
@@ -184,7 +184,7 @@ module _ (w : TreeWords) (valid : Accepted (tree-of w)) where
           let o = path-index (tree-of w) valid (h .thread) (h .real) d (sym (under-domain (tree-of w) d (h .thread)) ∙ h .below) in
           true≢false (sym (owned .marked (h .thread) (o .index) (h .real)) ∙ ap (λ x. getD bs x false) (ancestor-same (h .thread) (o .index) ∙ o .there) ∙ e)))
 
-  -- the lowest that is not marked is the lowest that is empty
+  -- the lowest domain that is not marked is the lowest empty one
   pub occupied-lowest :
       (bs : List Bool) → Occupied (tree-in (w .domains) (w .threads) (w .parents) [] (w .homes)) bs → (p : ℕ) →
       Lowest (w .domains) (λ d. not (getD bs d false)) p → Lowest (w .domains) (empty-domain (tree-of w)) p
@@ -200,7 +200,7 @@ module _ (w : TreeWords) (valid : Accepted (tree-of w)) where
   unfolding tree-of
   homes-real = record { real = λ i l. rw (read-in 0 (w .threads) (w .homes) i (omega arith) l) at (valid .home-real i l) }
 
-  -- where every leaf is a home, every domain has a thread under it
+  -- if every leaf is a home, every domain has a thread under it
   module _ (leaves : (d : ℕ) → d < w .domains → is-leaf (tree-of w) d ≡ true → is-home-in (w .threads) (w .homes) d ≡ true) where
     below-from : (k d : ℕ) → w .domains ≤ k + d → d < w .domains → Has-thread (tree-of w) d
     unfolding tree-of is-leaf
@@ -223,7 +223,7 @@ module _ (w : TreeWords) (valid : Accepted (tree-of w)) where
     pub none-empty : Lowest (w .domains) (empty-domain (tree-of w)) (w .domains)
     none-empty = none-bad (w .domains) (empty-domain (tree-of w)) (λ d l. one-there (tree-of w) d (below-from (w .domains) d (omega arith) l))
 
--- where the homes are the leaves, 9 and 16 refuse nothing
+-- if the homes are exactly the leaves, 9 and 16 refuse nothing
 pub leaves-pass :
     (w : TreeWords) → first-refusal (shape-tests (tree-of w)) .number ≡ 0 → (r : Bool) → Homes-are-leaves (w .domains) (w .threads) (w .parents) (w .homes) r → r ≡ true →
     tree-refusal (tree-of w) ≡ accepted

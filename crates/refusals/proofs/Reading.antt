@@ -1,4 +1,4 @@
--- A tree by its arrays: where a word is read, it is the array's.
+-- A tree given by its arrays: a word that is read is the array's.
 use mathlib.Core.Path.{_≡_, refl, ap}
 use mathlib.Core.Bool.{Bool, true, false, not}
 use mathlib.Core.List.{List}
@@ -31,7 +31,7 @@ pub not-not : (b : Bool) → not (not b) ≡ b
 not-not true = refl
 not-not false = refl
 
--- the kind of root is not read
+-- the tests do not read the kind of root
 pub refusal-words-same : (w : TreeWords) → refusal-words (tree-refusal (tree-in (w .domains) (w .threads) (w .parents) (w .thresholds) (w .homes))) ≡ refusal-words (tree-refusal (tree-of w))
 unfolding tree-of Root-law
 refusal-words-same w = ap refusal-words (root-law (tree-of w) false)

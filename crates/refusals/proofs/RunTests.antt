@@ -11,7 +11,7 @@ use Rattle.refusals.specs.declared.Refusal.{Refusal}
 use Rattle.refusals.specs.Arrays.{threads-in, refusal-words, tree-state-tests, schedule-room-tests}
 use Rattle.refusals.proofs.Joining.{first-decides, other-decides, state-numbered}
 
--- what was told is 0 exactly if the refusal is
+-- the reported number is 0 exactly if the refusal's is
 pub refusal-words-not : (r : Refusal) (x : model.Refusal) → r ≡ refusal-words x → (r .number ≡ 0 → ⊥) → x .number ≡ 0 → ⊥
 refusal-words-not r x e n z = n (ap (λ q. q .number) e ∙ z)
 

@@ -1,4 +1,4 @@
--- Scans: one place more, and what the lowest bad place is to a list of tests.
+-- Scans: one more place, and how the lowest bad place decides a list of tests.
 use mathlib.Core.Path.{_≡_, refl, sym, _∙_}
 use mathlib.Core.Bool.{Bool, true, false, _&&_}
 use mathlib.Core.List.{List, _∷_}
@@ -15,7 +15,7 @@ use Rattle.refusals.specs.Lowest.{Lowest}
 pub one-more : (f : ℕ → Bool) (b : Bool) (d : ℕ) → ((j : ℕ) → j < d → f j ≡ b) → f d ≡ b → (j : ℕ) → j < d + 1 → f j ≡ b
 one-more f b d h e j l = elim (ℕ-discrete j d) [ yes p ↦ rw p e | no p ↦ h j (omega arith) ]
 
--- a scan has come to place d of n and found none bad
+-- a scan has reached place d of n and found none bad
 abbrev pub Scanned : (n : ℕ) (bad : ℕ → Bool) (d : ℕ) → Type 0
 Scanned n bad d = (d ≤ n) × ((j : ℕ) → j < d → bad j ≡ false)
 
@@ -25,14 +25,14 @@ scan-begun n bad = (omega arith, λ j l. absurd (omega arith))
 pub scan-goes-on : (n : ℕ) (bad : ℕ → Bool) (d : ℕ) → Scanned n bad d → d < n → bad d ≡ false → Scanned n bad (d + 1)
 scan-goes-on n bad d s l e = (omega arith, one-more bad false d (s .1) e)
 
--- the lowest bad place is the first that the scan finds, and n where it finds none
+-- the lowest bad place is the first that the scan finds, and n if it finds none
 pub scan-found : (n : ℕ) (bad : ℕ → Bool) (d : ℕ) → Scanned n bad d → bad d ≡ true → Lowest n bad d
 scan-found n bad d s e = record { within = s .0; passed = s .1; fails = λ _. e }
 
 pub scan-ended : (n : ℕ) (bad : ℕ → Bool) (d : ℕ) → Scanned n bad d → n ≤ d → Lowest n bad d
 scan-ended n bad d s l = record { within = s .0; passed = s .1; fails = λ h. absurd (omega arith) }
 
--- a place that fails
+-- if one place fails, not all pass
 pub all-fails : (n : ℕ) (f : ℕ → Bool) (j : ℕ) → j < n → f j ≡ false → all-below n f ≡ false
 unfolding all-below
 all-fails zero f j l e = absurd (omega arith)
@@ -43,7 +43,7 @@ all-fails (suc n) f j l e =
     and-false true b q = refl
     and-false false b q = sym q
 
--- the lowest bad place, and none
+-- a test refuses with its lowest bad place, or is skipped if there is none
 pub test-hit : (x : Test) (xs : List Test) (p : ℕ) → Lowest (x .places) (x .bad) p → p < x .places → first-refusal (x ∷ xs) ≡ refusal (x .number) p
 unfolding first-refusal
 test-hit x xs p L h =
@@ -63,6 +63,6 @@ single-hit x xs e h = test-hit x xs 0 (record { within = omega arith; passed = �
 pub single-missed : (x : Test) (xs : List Test) → x .places ≡ 1 → x .bad 0 ≡ false → first-refusal (x ∷ xs) ≡ first-refusal xs
 single-missed x xs e h = test-skipped x xs (λ p l. single (x .bad) false h p (omega arith))
 
--- what a test that a function computes is, by its answer
+-- the value of a test, from the answer of the function that computes it
 pub by-answer : (r : Bool) {x : Bool} (b : Bool) → r ≡ x → r ≡ b → x ≡ b
 by-answer r b p q = sym p ∙ q

@@ -21,7 +21,7 @@ use Rattle.refusals.proofs.Reading.{parent-in}
 use Rattle.refusals.proofs.Scanning.{single-hit, single-missed, test-hit, test-missed}
 use Rattle.refusals.proofs.Joining.{first-decides, other-decides}
 
--- what holds where 4 to 6 refuse nothing
+-- what holds after 4 to 6 refuse nothing
 pub record Shape (w : TreeWords) : Type 0 where
   pub some-domain : 0 < w .domains
   pub few-domains : w .domains ≤ 64
@@ -49,12 +49,12 @@ module _ (w : TreeWords) where
   abbrev t : Tree
   t = tree-of w
 
-  -- what each scan answers, of the whole tree
+  -- the answer of each scan, for the whole tree
   parents-of : (p : ℕ) → Lowest (w .domains) (bad-parent (parents-in (w .domains) (w .parents))) p → Lowest (t .domains) (bad-parent t) p
   unfolding bad-parent tree-of
   parents-of p L = lowest-same (w .domains) (bad-parent (parents-in (w .domains) (w .parents))) (bad-parent t) p (λ j. refl) L
 
-  -- levels read the parents alone
+  -- levels read only the parents
   levels-alone : (m : ℕ) (ts hs : List ℕ) → too-deep (tree-in (w .domains) m (w .parents) ts hs) ≡ too-deep t
   unfolding too-deep level depth tree-of
   levels-alone m ts hs = fun-ext (λ d. rw (depth-same (w .domains) (tree-in (w .domains) m (w .parents) ts hs) t d (λ e. refl)))
@@ -100,7 +100,7 @@ module _ (w : TreeWords) where
         unfolding bad-threads tree-of first-refusal
         counts-pass f = after-four ∙ single-missed _ [] refl (rw (ne-eqb (w .threads) 0 m, le-ltb 256 (w .threads) f))
 
-  -- they read nothing else
+  -- 4 and 5 read nothing else
   counts-alone : first-refusal (count-tests (tree-in (w .domains) (w .threads) [] [] [])) ≡ first-refusal (count-tests t)
   unfolding bad-domains bad-threads tree-of
   counts-alone = refl
@@ -133,7 +133,7 @@ module _ (w : TreeWords) where
         unfolding tree-of first-refusal
         domains-pass h = after-seven h₇ ∙ test-missed _ [] p₈ (thresholds-of p₈ L₈) h
 
-  -- they read neither threads nor homes
+  -- 6 to 8 read neither threads nor homes
   domains-alone : first-refusal (domain-tests (tree-in (w .domains) 0 (w .parents) (w .thresholds) [])) ≡ first-refusal (domain-tests t)
   unfolding bad-parent no-threshold tree-of
   domains-alone = rw (levels-alone 0 (w .thresholds) [])
@@ -165,7 +165,7 @@ module _ (w : TreeWords) where
           (domains-alone
           ∙ sym (other-decides (count-tests t) (domain-tests t) (numbered (count-tests t) refl) (sym (ap (λ q. q .number) counted) ∙ z)))
 
-  -- they do not read homes
+  -- 4 to 8 do not read homes
   shape-alone : first-refusal (shape-tests (tree-in (w .domains) (w .threads) (w .parents) (w .thresholds) [])) ≡ first-refusal (shape-tests t)
   unfolding bad-domains bad-threads bad-parent no-threshold tree-of
   shape-alone = rw (levels-alone (w .threads) (w .thresholds) [])

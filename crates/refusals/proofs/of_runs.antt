@@ -1,3 +1,4 @@
+-- Facts about the tests of a state that the proofs of the functions use.
 pub mod Owning
 pub mod Members
 pub mod RowShapes

@@ -1,4 +1,4 @@
--- What the tests of the calls say of the arrays that they read.
+-- What the tests of the calls establish about the arrays that they read.
 pub mod Arrays
 pub mod Lowest
 pub mod OfRuns

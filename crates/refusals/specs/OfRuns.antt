@@ -1,3 +1,3 @@
--- What the tests of a state say of the arrays that they read.
+-- What the tests of a state establish about the arrays that they read.
 pub mod Tables
 pub mod Counts

@@ -1,1 +1,2 @@
+-- The records on a thread's path.
 pub mod Records

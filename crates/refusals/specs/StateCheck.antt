@@ -1,3 +1,3 @@
--- What a reader must believe about the check of a state. The laws' proofs are in proofs/.
+-- The definitions about the check of a state that a reader must trust. The proofs of the laws are in proofs/.
 pub mod Answers
 pub mod Laws

@@ -1,4 +1,4 @@
-// The refusals of trees and of schedules, numbers 4 to 9, 16 and 11 to 13, each test over everything before the next.
+// The refusals of trees and of schedules, numbers 4 to 9, 16 and 11 to 13; each test looks at everything before the next test.
 pub mod of_runs;
 pub mod paths;
 pub mod state_check;
@@ -13,7 +13,7 @@ ghost use Rattle.refusals.specs.Lowest.{Lowest};
 
 pub mod trees;
 
-// An answer's number and place; 0 and 0 for accepted.
+// The number and place of an answer; 0 and 0 if accepted.
 pub struct Refusal {
     pub number: u32,
     pub place: u32,
@@ -25,7 +25,7 @@ pub fn refusal_at(number: u32, place: u32) -> Refusal
     Refusal { number, place }
 }
 
-// The counts meet 4 and 5.
+// 4 and 5 for the numbers of domains and threads.
 fn counts_refusal(domains: u32, threads: u32) -> Refusal
     ensures { λ r. ⌜ r ≡ refusal-words (first-refusal (count-tests (tree-in domains threads [] [] []))) ⌝ }
 {
@@ -44,7 +44,7 @@ fn counts_refusal(domains: u32, threads: u32) -> Refusal
     refusal_at(0, 0)
 }
 
-// The domains meet 6 to 8. One walk is enough where none fails.
+// 6 to 8 for the domains. One pass is enough if none fails.
 fn domains_refusal<'a>(parents: &'a [u8; 64], thresholds: &'a [u16; 64], domains: u32) -> Refusal
     requires { ⌜ (0 < domains) × (domains ≤ 64) ⌝ }
     ensures { λ r. ⌜ r ≡ refusal-words (first-refusal (domain-tests (tree-in domains 0 (now (parents .entry)) (now (thresholds .entry)) []))) ⌝ }
@@ -67,7 +67,7 @@ fn domains_refusal<'a>(parents: &'a [u8; 64], thresholds: &'a [u16; 64], domains
     refusal_at(0, 0)
 }
 
-// Counts and domains together: 4 to 8, which do not read homes.
+// 4 to 8, which do not read homes.
 fn shape_refusal<'a>(
     parents: &'a [u8; 64],
     thresholds: &'a [u16; 64],
@@ -83,7 +83,7 @@ fn shape_refusal<'a>(
     domains_refusal(parents, thresholds, domains)
 }
 
-// Which home meets 9, or which domain 16, where counts and domains refuse nothing.
+// The home that 9 refuses, or the domain that 16 refuses, if 4 to 8 refuse nothing.
 fn homes_refusal<'a>(
     parents: &'a [u8; 64],
     thresholds: &'a [u16; 64],
@@ -108,7 +108,7 @@ fn homes_refusal<'a>(
     refusal_at(0, 0)
 }
 
-// Making a fresh lock meets 4 to 9 and 16. Where the homes are the leaves, no home and no domain is searched.
+// 4 to 9 and 16, the tests of a fresh lock. If the homes are exactly the leaves, no home and no domain is searched.
 pub fn tree_refusal_of<'a>(
     parents: &'a [u8; 64],
     thresholds: &'a [u16; 64],
@@ -144,7 +144,7 @@ fn lowest_bad_entry(schedule: &[u16], threads: u32) -> u32
     k
 }
 
-// A run's schedule, and the room for its trace, meet 11 to 13.
+// 11 to 13, the tests of a schedule and of the length of its trace buffer.
 pub fn schedule_refusal_of(threads: u32, schedule: &[u16], room: usize) -> Refusal
     ensures { λ r. ⌜ r ≡ refusal-words (first-refusal (schedule-room-tests (threads-in threads) (now (schedule .entry)) room)) ⌝ }
 {

@@ -1,4 +1,4 @@
-// The refusals of a run: those of its tree, 10 of its state, and those of its schedule, each test over everything before the next.
+// The refusals of a run: those of its tree, 10 for its state, and those of its schedule; each test looks at everything before the next test.
 ghost use mathlib.Core.Path.{_≡_};
 ghost use Rattle.model.specs.Trees.{tree-of};
 ghost use Rattle.model.specs.Counters.{lock-state};
@@ -17,7 +17,7 @@ mod unused;
 use crate::Refusal;
 use model::TreeWords;
 
-// Whether a state is well formed: the root's words, the room that the tree lacks, its domains, its threads.
+// Whether a state is well formed: the words of the root, the unused slots, the domains, the threads.
 fn is_well_formed<'s>(
     tree: TreeWords,
     tails: &'s [u16; 64],
@@ -73,7 +73,7 @@ fn is_well_formed<'s>(
     )
 }
 
-// A run meets 4 to 9, 16 and 10 to 13; whoever takes its steps tests 19. A step is a run of one entry, with room for one. The arrays of the state are lent.
+// 4 to 9, 16 and 10 to 13, the tests of a run; the caller tests 19 with the steps. A step is a run of one entry with a trace buffer of one element. The arrays of the state are borrowed.
 pub fn lent_refusal_of<'s, 'c>(
     tree: TreeWords,
     tails: &'s [u16; 64],

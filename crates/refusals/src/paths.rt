@@ -1,4 +1,4 @@
-// A thread's path, from its home up to the root: the search for a domain's child on it, and the record with which the thread works at a domain.
+// A thread's path, from its home up to the root: the search for a domain's child on it, and the record that the thread uses at a domain.
 ghost use mathlib.Core.Path.{_≡_};
 ghost use Prim.Native.Nat.{_<_, _≤_};
 ghost use Rattle.model.specs.Search.{search-from};
@@ -6,7 +6,7 @@ ghost use Rattle.refusals.specs.Arrays.{parents-in, Lower};
 ghost use Rattle.refusals.specs.Paths.Records.{own-record-in};
 use model::Found;
 
-// The search for the child of a domain on the path from a home up, level by level: it leaves as soon as it has the child, and says how many domains it looked at.
+// The search for a domain's child on the path from a home up, level by level: it stops as soon as it has the child, and reports how many domains it looked at.
 pub fn search_at(parents: &[u8; 64], domains: u32, home: u8, l: u8) -> Found
     requires { ⌜ domains ≤ 64 ⌝ }
     requires { ⌜ Lower domains (now parents) ⌝ }
@@ -34,7 +34,7 @@ pub fn search_at(parents: &[u8; 64], domains: u32, home: u8, l: u8) -> Found
     Found { child, looked }
 }
 
-// The record with which a thread works at a domain: its own at home, above that of the domain's child.
+// The record that a thread uses at a domain: its own at home, that of the domain's child above.
 pub fn record_at(parents: &[u8; 64], domains: u32, i: u16, home: u8, l: u8) -> u16
     requires { ⌜ (domains ≤ 64) × (i < 256) ⌝ }
     requires { ⌜ Lower domains (now parents) ⌝ }

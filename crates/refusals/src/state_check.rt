@@ -1,4 +1,4 @@
-// The check of a state that a host kept: the tests of its tree, then 10 of the state, and nothing else.
+// The check of a state that a host has kept: the tests of its tree, then 10 for the state, and nothing else.
 ghost use mathlib.Core.Path.{_≡_};
 ghost use Rattle.refusals.specs.Arrays.{refusal-words};
 ghost use Rattle.refusals.specs.StateCheck.Answers.{check-answer};
@@ -6,7 +6,7 @@ use crate::Refusal;
 use model::LockState;
 use model::TreeWords;
 
-// Number and place of what refuses the state; 0 and 0 where every call takes it up.
+// Number and place of what refuses the state; 0 and 0 if every call accepts it.
 pub fn check_state(tree: TreeWords, state: LockState) -> Refusal
     ensures { λ r. ⌜ r ≡ refusal-words (check-answer tree state) ⌝ }
 {

@@ -1,4 +1,4 @@
-// The tests of a tree, each as the lowest place that fails it; quick tests of all domains and of all homes, and the tables that they need.
+// The tests of a tree, each giving the lowest place that fails it; quick tests of all domains and of all homes, and the tables that they need.
 ghost use mathlib.Core.Path.{_≡_};
 ghost use mathlib.Core.Bool.{false, _&&_, not};
 ghost use mathlib.Core.List.{[]};
@@ -83,7 +83,7 @@ pub(crate) fn lowest_no_threshold(thresholds: &[u16; 64], domains: u32) -> u32
     d
 }
 
-// True only where no domain fails 6, 7 or 8, in one walk; otherwise the scans say which does.
+// True only if no domain fails 6, 7 or 8, in one pass; otherwise the scans find which one does.
 pub(crate) fn domains_pass<'a>(
     parents: &'a [u8; 64],
     thresholds: &'a [u16; 64],
@@ -115,7 +115,7 @@ pub(crate) fn domains_pass<'a>(
     true
 }
 
-// Of each byte, whether it is no domain of the tree.
+// For each byte, whether it is not a domain of the tree.
 fn no_domains(outside: &mut [bool; 256], domains: u32)
     requires { ⌜ domains ≤ 64 ⌝ }
     ensures { λ r. ⌜ No-domains domains (now (outside .exit)) ⌝ }
@@ -129,7 +129,7 @@ fn no_domains(outside: &mut [bool; 256], domains: u32)
     }
 }
 
-// Of each byte, whether it is no home: no domain of the tree, or one with child domains.
+// For each byte, whether it is not a valid home: it is not a domain of the tree, or has child domains.
 pub(crate) fn mark_unfit_homes(bad: &mut [bool; 256], parents: &[u8; 64], domains: u32)
     requires { ⌜ (0 < domains) × (domains ≤ 64) ⌝ }
     ensures { λ r. ⌜ Unfit-homes domains (now (parents .entry)) (now (bad .exit)) ⌝ }
@@ -167,7 +167,7 @@ pub(crate) fn lowest_bad_home<'a>(
     i
 }
 
-// Of each byte, whether it is some thread's home.
+// For each byte, whether it is the home of some thread.
 fn marked_homes(marked: &mut [bool; 256], homes: &[u8; 256], threads: u32)
     requires { ⌜ threads ≤ 256 ⌝ }
     ensures { λ r. ⌜ Marked-homes threads (now (homes .entry)) (now (marked .exit)) ⌝ }
@@ -200,7 +200,7 @@ fn both(a: bool, b: bool) -> bool
     false
 }
 
-// True only where each byte is a home exactly if it is a leaf of the tree: then no home fails 9 and no domain 16. The walk has no early end, so that many bytes are compared at once.
+// True only if each byte is a home exactly if it is a leaf of the tree: then no home fails 9 and no domain fails 16. The loop has no early exit, so that the compiler can compare many bytes at once.
 pub(crate) fn homes_are_leaves<'a>(
     parents: &'a [u8; 64],
     homes: &'a [u8; 256],
@@ -224,7 +224,7 @@ pub(crate) fn homes_are_leaves<'a>(
     same
 }
 
-// The homes, as domains.
+// For each domain, whether it is a home.
 fn home_domains(homes: &[u8; 256], domains: u32, threads: u32) -> [bool; 64]
     requires { ⌜ (domains ≤ 64) × (threads ≤ 256) ⌝ }
     requires { ⌜ Real-homes domains threads (now homes) ⌝ }
@@ -241,7 +241,7 @@ fn home_domains(homes: &[u8; 256], domains: u32, threads: u32) -> [bool; 64]
     occupied
 }
 
-// Of each domain, whether a thread is under it. Parents have lower numbers, so a walk from the highest domain down marks them.
+// For each domain, whether a thread is under it. Parents have lower numbers, so a loop from the highest domain down marks them.
 pub(crate) fn occupied<'a>(
     parents: &'a [u8; 64],
     homes: &'a [u8; 256],

@@ -1,1 +1,2 @@
+-- Facts about the rows of the acquire.
 pub mod Acquiring

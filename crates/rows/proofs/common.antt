@@ -1,3 +1,4 @@
+-- Facts that the proofs of all rows share.
 pub mod RowPlaces
 pub mod Counts
 pub mod Shown

@@ -1,1 +1,2 @@
+-- Facts about the rows of the release.
 pub mod Leaving

@@ -1,2 +1,3 @@
+-- Facts about one step.
 pub mod StepCounted
 pub mod StepTaken

@@ -1,2 +1,2 @@
--- What the rows of the acquire say of the words that they read and store.
+-- What the rows of the acquire promise about the words that they read and store.
 pub mod Rows

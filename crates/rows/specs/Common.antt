@@ -1,4 +1,4 @@
--- What is said of where a thread stands, of what is counted of it, and of a row that is done.
+-- Definitions about where a thread is, what is counted, and when a row is done.
 pub mod Standing
 pub mod Counting
 pub mod Rows

@@ -1,3 +1,3 @@
--- What one step stores and counts, by the words that it reads.
+-- What one step stores and counts, given the words that it reads.
 pub mod Taking
 pub mod Counting

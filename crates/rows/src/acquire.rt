@@ -1,4 +1,4 @@
-// The rows of the step table with which a thread acquires, in code: from its start to where it is Inside, what each stores and counts, and what it says of its step. It writes into the arrays that the run lends. An inner crate: `taking` takes the row of a place, and has what the row asks for.
+// The rows of the step table with which a thread acquires, from its start to Inside: what each stores and counts, and what it reports about its step. They write to the arrays that the run lends. `step` calls the row of a place and meets its requirements.
 ghost use mathlib.Core.Path.{_≡_};
 ghost use mathlib.Core.Bool.{false, cond};
 ghost use lib.Dec.{eqb};
@@ -129,7 +129,7 @@ pub fn wait(
     rows::moves(model::CROSSED_ENTRY, Place::Inside)
 }
 
-// The thread draws the root's ticket: Inside where it is the one shown, else it watches.
+// The thread draws the root's ticket: it goes Inside if the grant shows it, else it watches.
 pub fn draw(
     parents: &[u8; 64],
     domains: u32,
@@ -184,7 +184,7 @@ pub fn watch(
     rows::moves(model::ROOT_ENTRY, Place::Inside)
 }
 
-// A thread at home draws where its home is a ticket root, else it prepares. No tenure starts: the record is the thread's own.
+// A thread at home draws if its home is a ticket root, else it does Prep. No tenure starts: the record is the thread's own.
 pub fn start(
     parents: &[u8; 64],
     domains: u32,

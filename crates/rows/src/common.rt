@@ -1,4 +1,4 @@
-// Where a thread stands: the domain of its place, and the record with which it works there.
+// Where a thread is: the domain of its place, and the record that it uses there.
 ghost use Prim.Native.Nat.{_<_, _≤_};
 ghost use Rattle.refusals.specs.Arrays.{Lower};
 ghost use Rattle.rows.specs.Common.Standing.{Member-of};
@@ -15,7 +15,7 @@ pub struct Member {
     pub own: u16,
 }
 
-// A thread as a member of a domain: with its own record at home, above with that of the domain's child.
+// A thread as a member of a domain: with its own record at home, with that of the domain's child above.
 pub fn member_at(parents: &[u8; 64], domains: u32, i: u16, home: u8, l: u8) -> Member
     requires { ⌜ domains ≤ 64 ⌝ }
     requires { ⌜ Lower domains (now parents) ⌝ }

@@ -1,4 +1,4 @@
-// The rows of the step table with which a thread releases, in code: from Inside to where it is Idle, what each stores and counts, and what it says of its step. It writes into the arrays that the run lends. An inner crate: `taking` takes the row of a place, and has what the row asks for.
+// The rows of the step table with which a thread releases, from Inside to Idle: what each stores and counts, and what it reports about its step. They write to the arrays that the run lends. `step` calls the row of a place and meets its requirements.
 ghost use mathlib.Core.Path.{_≡_};
 ghost use mathlib.Core.Bool.{false, cond};
 ghost use lib.Dec.{eqb};
@@ -24,7 +24,7 @@ pub fn leave(ticket_root: u32, home: u8) -> Moved
     rows::moves(model::LEAVING, places::release_place_at(ticket_root, home))
 }
 
-// Never at the root. A Check that will grant tells the word as the length of the domain's tenure.
+// Never at the root. A Check that will grant reports the word as the length of the domain's tenure.
 pub fn check(
     ticket_root: u32,
     w: Member,

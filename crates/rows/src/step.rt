@@ -1,4 +1,4 @@
-// One step of a thread: the row of its place, on the arrays that the run lends. An inner crate: `steps` has what the step asks for, and calls it at one place.
+// One step of a thread: the row of its place, on the arrays that the run lends. The run's loop in `lock` calls it at one place and meets its requirements.
 ghost use lib.ListN.{getD};
 ghost use Rattle.rows.specs.Common.Counting.{parent-in, Room-above, Entered, Shown-for};
 ghost use Rattle.rows.specs.Step.Counting.{Counted-step, Shown-left};
@@ -10,7 +10,7 @@ use crate::common::rows::Moved;
 use model::Place;
 use model::PlaceWords;
 
-// The step that a thread takes from a place. The arrays and the counters are lent, and only what the row stores is written.
+// The step that a thread takes from a place. The arrays and the counters are borrowed, and only what the row stores is written.
 pub fn take<'t>(
     parents: &'t [u8; 64],
     thresholds: &'t [u16; 64],

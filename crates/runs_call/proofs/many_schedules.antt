@@ -1,4 +1,4 @@
--- What the proofs of the functions share; each function's own stands in its folder.
+-- What the proofs of the functions share; the proof of each function is in its folder.
 pub mod Adding
 pub mod Answering
 pub mod Storing

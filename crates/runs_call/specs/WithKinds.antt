@@ -1,2 +1,2 @@
--- What the functions after the call promise. The definitions that it meets are in `kinds`.
+-- What the functions inside the call promise. The definitions that the call meets are in `kinds`.
 pub mod Spreading

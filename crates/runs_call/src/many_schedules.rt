@@ -1,4 +1,4 @@
-// Many schedules in one call: what refuses the whole call, 4 to 9 and 16, then 22 and 23, and the rows.
+// Many schedules in one call: what refuses the whole call, 4 to 9 and 16, then 22 and 23; and the rows.
 ghost use mathlib.Core.Path.{_≡_};
 ghost use Prim.Native.Nat.{ℕ};
 ghost use lib.Dec.{eqb};
@@ -15,7 +15,7 @@ use model::TreeWords;
 use refusals::Refusal;
 use schedules::ManyReply;
 
-// Whether the lengths add up to the entries. What is left of the entries falls, so that no sum is made that could wrap.
+// Whether the lengths add up to the number of entries. The lengths are subtracted from it, so that no sum can wrap.
 fn adds_up(lengths: &[u32], entries: usize) -> bool
     ensures { λ r. ⌜ r ≡ eqb (total (now (lengths .entry))) entries ⌝ }
 {
@@ -32,7 +32,7 @@ fn adds_up(lengths: &[u32], entries: usize) -> bool
     left == 0
 }
 
-// The whole call meets 4 to 9 and 16, then 22, then 23.
+// 4 to 9 and 16, then 22, then 23, the tests of the whole call.
 pub fn many_refusal_of(tree: TreeWords, lengths: &[u32], entries: usize, room: usize) -> Refusal
     ensures { λ r. ⌜ r ≡ refusal-words (many-refusal (tree-of tree) (now (lengths .entry)) entries room) ⌝ }
 {
@@ -64,7 +64,7 @@ pub fn many_refusal_of(tree: TreeWords, lengths: &[u32], entries: usize, room: u
     }
 }
 
-// Many schedules, the entries of all of them one after another: of each, run from its own fresh lock, one row of eight numbers at the front of the rows. Refused as a whole, the rows as they came.
+// Many schedules, whose entries follow one another: each runs from its own fresh lock, and its row of eight numbers goes to the front of the rows. If the whole call is refused, the rows are unchanged.
 pub fn run_many(tree: TreeWords, lengths: &[u32], entries: &[u16], rows: &mut [u32]) -> ManyReply
     ensures { λ r. ⌜ r ≡ many-reply tree (now (lengths .entry)) (now (entries .entry)) (now (rows .entry)) ⌝ }
     ensures { λ r. ⌜ now (rows .exit) ≡ rows-answer tree (now (lengths .entry)) (now (entries .entry)) (now (rows .entry)) ⌝ }

@@ -1,4 +1,4 @@
-// A run with waits: what refuses it, 4 to 9, 16 and 10 to 13, then 18, 27 and 19, the mean of a row, and the run itself.
+// A run with waits: what refuses it, 4 to 9, 16 and 10 to 13, then 18, 27 and 19; the mean of a row; and the run itself.
 ghost use mathlib.Core.Path.{_≡_};
 ghost use Rattle.model.specs.Trees.{tree-of};
 ghost use Rattle.model.specs.Counters.{lock-state};
@@ -24,7 +24,7 @@ use refusals::Refusal;
 use waits::Fraction;
 use waits::WaitsReply;
 
-// The most that a number of an attempt under way may be, 2^63.
+// The largest number of an attempt under way, 2^63.
 const MOST: u64 = 9223372036854775808;
 
 // The greatest common divisor, by Euclid's algorithm.
@@ -41,7 +41,7 @@ fn greatest_divisor(a: u64, b: u64) -> u64
     x
 }
 
-// A total over a number of attempts in lowest terms; without attempts 0 over 0.
+// A total over a number of attempts in lowest terms; 0 over 0 without attempts.
 pub fn mean_of(total: u64, attempts: u64) -> Fraction
     ensures { λ r. ⌜ r ≡ mean total attempts ⌝ }
 {
@@ -58,7 +58,7 @@ pub fn mean_of(total: u64, attempts: u64) -> Fraction
     }
 }
 
-// A run with waits meets 4 to 9, 16 and 10 to 13, then 18; whoever takes its steps tests 19. The arrays of the state are lent.
+// 4 to 9, 16 and 10 to 13, then 18, the tests of a run with waits; the caller tests 19 with the steps. The arrays of the state are borrowed.
 pub fn waits_refusal_of<'s, 'c>(
     tree: TreeWords,
     tails: &'s [u16; 64],
@@ -109,7 +109,7 @@ pub fn waits_refusal_of<'s, 'c>(
     r
 }
 
-// A number of an attempt under way cannot be: above 2^63, or not 0 after the last thread.
+// Whether the number of an attempt under way is invalid: above 2^63, or not 0 in an unused slot.
 fn is_bad_number(threads: u32, at: u32, number: u64) -> bool
     ensures { λ r. ⌜ r ≡ bad-number threads at number ⌝ }
 {
@@ -122,7 +122,7 @@ fn is_bad_number(threads: u32, at: u32, number: u64) -> bool
     number != 0
 }
 
-// The lowest index of such a number; 256 where there is none.
+// The lowest index of such a number; 256 if there is none.
 fn lowest_bad_number(tree: TreeWords, under_way: &[u64; 256]) -> u32
     ensures { λ r. ⌜ Lowest 256 (bad-under-way (tree-of tree) (now («under_way» .entry))) r ⌝ }
 {
@@ -137,7 +137,7 @@ fn lowest_bad_number(tree: TreeWords, under_way: &[u64; 256]) -> u32
     k
 }
 
-// With 27 and 19 after them.
+// The same tests, followed by 27 and 19.
 pub(crate) fn refusal_of<'s, 'c>(
     tree: TreeWords,
     tails: &'s [u16; 64],
@@ -207,7 +207,7 @@ pub(crate) fn refusal_of<'s, 'c>(
     )
 }
 
-// A run, and in a row buffer of its own the waits of each thread's attempts and of all together, five numbers a row; refused, state, trace and rows as they came.
+// A run that also writes the waits of each thread's attempts and of all together to its own row buffer, five numbers per row; if refused, state, trace and rows are unchanged.
 pub fn run_waits(
     tree: TreeWords,
     state: LockState,
@@ -284,7 +284,7 @@ pub fn run_waits(
     }
 }
 
-// The same from the attempts under way; their numbers after the run stand where those before it stood. Refused, the numbers as they came too.
+// The same for a run that continues the attempts under way; their numbers are replaced by those after the run. If refused, the numbers are unchanged too.
 pub fn run_waits_on(
     tree: TreeWords,
     state: LockState,

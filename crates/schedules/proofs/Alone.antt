@@ -1,4 +1,4 @@
--- A schedule run alone on an accepted tree: the tree and the fresh words pass, and the trace buffer has room, so its own tests decide.
+-- A schedule run alone on an accepted tree: the tree and the fresh words pass and the trace buffer is long enough, so the schedule's own tests decide.
 use mathlib.Core.Path.{_≡_, refl, sym, ap, _∙_}
 use mathlib.Core.Bool.{Bool}
 use mathlib.Core.List.{List, [], _++_}
@@ -35,7 +35,7 @@ use Rattle.refusals.proofs.Scanning.{single-missed}
 use Rattle.schedules.specs.Rows.{alone, row-of}
 use Rattle.schedules.specs.Laws.{Says}
 
--- tests behind others that refuse nothing change no answer
+-- tests that refuse nothing, put after others, change no answer
 passing-after : (xs ys : List Test) → Numbered xs → first-refusal ys ≡ accepted → first-refusal (xs ++ ys) ≡ first-refusal xs
 unfolding Refusal-law
 passing-after xs ys n e =
@@ -54,7 +54,7 @@ module _ (w : TreeWords) (ok : tree-refusal (tree-of w) .number ≡ 0) where
   unfolding bad-state first-refusal
   fresh-passes = single-missed _ [] refl (rw (fresh-well-formed (tree-of w), fresh-good (tree-of w)))
 
-  -- and 19: a schedule that 11 does not refuse is too short for it
+  -- and 19: a schedule that 11 does not refuse is too short to reach its limit
   before-19 : (is : List ℕ) (room : ℕ) → run-refusal (tree-of w) fresh-lock is room ≡ first-refusal (run-tests-before-19 (tree-of w) fresh-lock is room)
   unfolding run-refusal run-tests Room-law first-refusal
   before-19 is room =
@@ -68,7 +68,7 @@ module _ (w : TreeWords) (ok : tree-refusal (tree-of w) .number ≡ 0) where
         | no z ↦ first-decides xs (counter-tests t fresh-lock is) z
       ]
 
-  -- so a run from it meets 11 to 13 alone
+  -- so only 11 to 13 can refuse a run from it
   pub schedule-decides : (is : List ℕ) (room : ℕ) → run-refusal (tree-of w) fresh-lock is room ≡ first-refusal (schedule-tests (tree-of w) is ++ room-tests is room)
   unfolding tree-refusal has-number refusal accepted
   schedule-decides is room =
@@ -77,14 +77,14 @@ module _ (w : TreeWords) (ok : tree-refusal (tree-of w) .number ≡ 0) where
       ∙ other-decides (tree-tests t) (state-tests t fresh-lock ++ (schedule-tests t is ++ room-tests is room)) (tree-numbered t) ok
       ∙ other-decides (state-tests t fresh-lock) (schedule-tests t is ++ room-tests is room) (numbered (state-tests t fresh-lock) refl) (ap (λ r. r .number) fresh-passes)
 
-  -- and with room for its trace 11 and 12
+  -- and only 11 and 12 if the trace buffer is long enough
   pub alone-decides : (is : List ℕ) (room : ℕ) → length is ≤ room → run-refusal (tree-of w) fresh-lock is room ≡ first-refusal (schedule-tests (tree-of w) is)
   unfolding bad-room first-refusal
   alone-decides is room h =
       schedule-decides is room
       ∙ passing-after (schedule-tests (tree-of w) is) (room-tests is room) (schedule-numbered (tree-of w) is) (single-missed _ [] refl (le-ltb room (length is) h))
 
-  -- what a run with a trace buffer of the schedule's length answers
+  -- the answer of a run with a trace buffer of the schedule's length
   pub answer-by-schedule :
       (is b : List ℕ) → length b ≡ length is →
       run-answer w fresh-lock is b ≡ run-reply (first-refusal (schedule-tests (tree-of w) is)) fresh-lock (run (tree-of w) is fresh-words) (counters-after-run (tree-of w) is fresh-lock)
@@ -138,7 +138,7 @@ module _ (w : TreeWords) (ok : tree-refusal (tree-of w) .number ≡ 0) (is : Lis
   abbrev left : Counters
   left = counters-after-run (tree-of w) is fresh-lock
 
-  -- what a row says, of the row that its schedule gives alone
+  -- what the row of a schedule run alone reports
   pub row-says : Says w is (row-of (alone w is))
   unfolding fresh-answer refusal Refusal-law Lone-run-law tree-refusal
   row-says =

@@ -1,4 +1,4 @@
--- THE ROW BUFFER after a call: each row at its place, nothing after them.
+-- THE ROW BUFFER after a call: each row is at its place, and the rest is unchanged.
 use mathlib.Core.Path.{_≡_, refl, sym, ap, _∙_}
 use mathlib.Core.List.{List, [], _∷_, _++_, append-assoc}
 use mathlib.Core.Logic.{_≢_}
@@ -65,7 +65,7 @@ row-in w (is ∷ iss) rest (suc k) h =
     let z : 8 * suc k ≡ 8 + 8 * k = omega arith in
     rw (z, append-assoc, drop-row (alone w is) (8 * k) (all-rows w iss ++ rest)) (row-in w iss rest k (omega arith))
 
--- accepted, the rows are at the front
+-- in an accepted call the rows are at the front
 pub rows-accepted :
     (w : TreeWords) (ns es b : List ℕ) → many-answer w ns es b .number ≡ 0 →
     rows-answer w ns es b ≡ all-rows w (cut ns es) ++ drop (length (all-rows w (cut ns es))) b

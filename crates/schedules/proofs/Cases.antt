@@ -1,4 +1,4 @@
--- The cases hold: each is computed.
+-- The cases hold, by computation.
 use mathlib.Core.Path.{_≡_, refl, _∙_}
 use mathlib.Core.Bool.{Bool, true, _&&_}
 use mathlib.Core.List.{List, [], _∷_}
@@ -26,7 +26,7 @@ use Rattle.schedules.specs.Cases.Schedules.{Case, rows-given, refused-by
 use Rattle.schedules.proofs.Alone.{alone-by-schedule}
 use Rattle.schedules.proofs.Answering.{call-facts}
 
--- THE ROWS, QUICKLY: on an accepted tree a schedule's own tests decide, so that neither the fresh words nor the counters are tested
+-- THE ROWS, QUICKLY: on an accepted tree only the schedule's own tests decide, so neither the fresh words nor the counters are tested
 abbrev quick-alone : TreeWords → (schedule : List ℕ) → RunReply
 quick-alone w is = let t = tree-of w in run-reply (first-refusal (schedule-tests t is)) fresh-lock (run t is fresh-words) (counters-after-run t is fresh-lock)
 

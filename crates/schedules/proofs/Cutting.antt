@@ -1,4 +1,4 @@
--- The schedules: as many as lengths, each of its length, one after another all entries.
+-- The schedules: one per length, each of its length, and together all entries in order.
 use mathlib.Core.Path.{_≡_, refl, sym, ap, _∙_}
 use mathlib.Core.List.{List, [], _∷_, _++_}
 use Prim.Native.Nat.{ℕ, zero, suc, _+_, _≤_, _<_}
@@ -13,14 +13,14 @@ unfolding cut
 as-many [] es = refl
 as-many (n ∷ ns) es = ap suc (as-many ns (drop n es))
 
--- the k-th starts after the lengths before it
+-- the k-th schedule starts after the lengths before it
 pub in-order : (ns es : List ℕ) (k : ℕ) → k < length ns → getD (cut ns es) k [] ≡ schedule-at ns es k
 unfolding cut total
 in-order [] es k h = absurd (omega arith)
 in-order (n ∷ ns) es zero h = refl
 in-order (n ∷ ns) es (suc k) h = in-order ns (drop n es) k (omega arith) ∙ rw drop-drop
 
--- a length and those before it are no more than all of them
+-- a length and those before it add up to at most all of them
 within : (ns : List ℕ) (k : ℕ) → k < length ns → total (take k ns) + getD ns k 0 ≤ total ns
 unfolding total
 within [] k h = absurd (omega arith)

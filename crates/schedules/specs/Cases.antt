@@ -1,2 +1,2 @@
--- Computed cases: they pin the definitions, and nobody has to believe them.
+-- Computed cases. They check the definitions; a reader does not have to trust them.
 pub mod Schedules

@@ -1,4 +1,4 @@
--- In the order of document 02, request (xi): what a reader must believe about many schedules in one call. The laws' proofs are in proofs/.
+-- The definitions about many schedules in one call that a reader must trust, in the order of document 02, (xi). The proofs of the laws are in proofs/.
 pub mod Rows
 pub mod Refusals
 pub mod Answers

@@ -6,21 +6,21 @@ use Rattle.model.specs.declared.TreeWords.{TreeWords}
 use Rattle.model.specs.declared.RunReply.{RunReply}
 use Rattle.model.specs.Answers.{lone-answer}
 
--- what the lengths add up to
+-- the sum of the lengths
 unfoldable pub total : (lengths : List ℕ) → ℕ
 total [] = 0
 total (n ∷ ns) = n + total ns
 
--- the schedules: the entries, which stand one after another, cut by the lengths
+-- the schedules: consecutive parts of the entries, with these lengths
 unfoldable pub cut : (lengths entries : List ℕ) → List (List ℕ)
 cut [] es = []
 cut (n ∷ ns) es = take n es ∷ cut ns (drop n es)
 
--- a schedule run alone: from its own fresh lock, with a trace buffer of its length
+-- the answer to a schedule run alone, from its own fresh lock and with a trace buffer of its length
 unfoldable pub alone : TreeWords → (schedule : List ℕ) → RunReply
 alone w is = lone-answer w is
 
--- a row: outcome, place and counts
+-- a row: number, place and counts
 unfoldable pub row-of : RunReply → List ℕ
 row-of r =
     r .number ∷ r .place ∷ r .counts .steps ∷ r .counts .entries ∷ r .counts .stays ∷ r .counts .root ∷ r .counts .passed
@@ -31,7 +31,7 @@ unfoldable pub rows-of : TreeWords → (schedules : List (List ℕ)) → List (L
 rows-of w [] = []
 rows-of w (is ∷ iss) = row-of (alone w is) ∷ rows-of w iss
 
--- some lists one after another
+-- the lists joined in order
 unfoldable pub after-one-another : List (List ℕ) → List ℕ
 after-one-another [] = []
 after-one-another (xs ∷ xss) = xs ++ after-one-another xss

@@ -1,4 +1,4 @@
--- The domains and threads below a domain stand together: what holds of each such block, of a leaf, of a child, and of two one after another.
+-- The domains and threads below a domain are contiguous: what holds of such a block, of a leaf, of a child, and of two consecutive blocks.
 use mathlib.Core.Path.{_≡_, refl, _∙_, ap}
 use mathlib.Core.Bool.{Bool, true, false}
 use mathlib.Core.Logic.{_≢_, _⊎_, inl, inr, ⊎-elim}
@@ -8,7 +8,7 @@ use native.Mathlib.Decide.{ℕ-discrete}
 use lib.Dec.{ltb}
 use borrow.Author.Tests.{ltb-true, ltb-false}
 
--- a domain lies so many steps above another
+-- a domain is a given number of levels above another
 pub data Up (parent : ℕ → ℕ) : (from to steps : ℕ) → Type 0 where
   arrived : {c d : ℕ} → c ≡ d → Up parent c d 0
   step-up : {c d n : ℕ} → 0 < c → Up parent (parent c) d n → Up parent c d (suc n)
@@ -31,7 +31,7 @@ pub record Below (parent : ℕ → ℕ) (domain top levels : ℕ) : Type 0 where
   pub few : steps ≤ levels
   pub up : Up parent domain top steps
 
--- the domains from lo to before hi lie below d, the threads from i to before j live there, none in a domain below base
+-- the domains from lo up to hi, excluded, are below d; the threads from i up to j, excluded, have their homes there, none in a domain with a number below base
 pub record Block (parent threshold home : ℕ → ℕ) (d base lo hi i j levels : ℕ) : Type 0 where
   pub domains-order : lo ≤ hi
   pub threads-order : i ≤ j
@@ -62,7 +62,7 @@ module _ (parent threshold home : ℕ → ℕ) where
             record { thread = i; from = omega arith; before = some; steps = 0; few = omega arith; up = arrived (here i (omega arith) some) };
       }
 
-  -- the homes may be looked for from d on
+  -- the bound on the homes may be lowered to d
   pub inner-block :
       (d lo hi i j levels : ℕ) → d < lo → Block parent threshold home d lo lo hi i j levels → Block parent threshold home d d lo hi i j levels
   inner-block d lo hi i j levels h b =
@@ -79,7 +79,7 @@ module _ (parent threshold home : ℕ → ℕ) where
         lived-top = b .lived-top;
       }
 
-  -- a child with what lies below it
+  -- a child with everything below it
   module _ (d c0 hi i j levels : ℕ) (b : Block parent threshold home c0 c0 (c0 + 1) hi i j levels) (under : d < c0) (is : parent c0 ≡ d) (good : (1 ≤ threshold c0) × (threshold c0 ≤ 65535)) where
     -- the child itself, or a domain below it
     by-child : {C : Type 0} (c : ℕ) → c0 ≤ c → (c ≡ c0 → C) → (c0 + 1 ≤ c → C) → C
@@ -115,7 +115,7 @@ module _ (parent threshold home : ℕ → ℕ) where
               };
         }
 
-  -- two lists of children one after another
+  -- two consecutive lists of children
   module _ (d lo mid hi i k j levels : ℕ) (a : Block parent threshold home d lo lo mid i k levels) (b : Block parent threshold home d mid mid hi k j levels) (under : d < lo) where
     by-part : {C : Type 0} (n m : ℕ) → (n < m → C) → (m ≤ n → C) → C
     by-part {C} n m f g = go (ltb n m) refl

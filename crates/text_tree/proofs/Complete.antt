@@ -28,7 +28,7 @@ digit-test b l u = rw (le-leb 48 b l, lt-ltb b 58 (omega arith))
 first-digit-test : (b : ℕ) → 49 ≤ b → b ≤ 57 → is-first-digit b ≡ true
 first-digit-test b l u = rw (le-leb 49 b l, lt-ltb b 58 (omega arith))
 
--- one byte more
+-- one more byte
 goes : (b : ℕ) (rest : List ℕ) (q r : Position) → move q b ≡ to r → read-on (b ∷ rest) (to q) ≡ read-on rest (to r)
 unfolding read-on
 goes b rest q r e = ap (read-on rest) e
@@ -56,7 +56,7 @@ module _ (d : ℕ) (ds : List ℕ) (p : ℕ) (w : TreeWords) where
   grows-threshold h b l u f = rw (digit-test b l u, lt-ltb (grown h b) 65536 (omega arith))
 
 -- NUMBERS
--- a position is reached from another by reading some bytes
+-- some bytes lead from one position to another
 pub record Reads (bytes rest : List ℕ) (q : Position) (there : ℕ → Position) : Type 0 where
   pub place : ℕ
   pub same : read-on (bytes ++ rest) (to q) ≡ read-on rest (to (there place))
@@ -123,7 +123,7 @@ threshold-reads (numeral {b} {bs} l u xs) rest d ds p w f =
           ∙ ap (λ n. read-on rest (to (in-threshold n d ds (r .place) w))) (sym (first-value b bs));
     }
 
--- TREES, from after their first parenthesis
+-- TREES, read from after their first parenthesis
 pub record Tree-reads (bytes rest : List ℕ) (q : Position) (ds : List ℕ) (w : TreeWords) : Type 0 where
   pub inner-bytes : List ℕ
   pub opens : bytes ≡ 40 ∷ inner-bytes
@@ -192,7 +192,7 @@ list-begins (more-text {xs = xs} {ys = ys} {zs = zs} e x f y z) rest d ds p w h 
 joined : (xs ys zs rest : List ℕ) → (xs ++ (ys ++ (32 ∷ zs))) ++ rest ≡ (xs ++ ys) ++ (32 ∷ (zs ++ rest))
 joined xs ys zs rest = simp append-assoc
 
--- one case each, the parts' readings being handed over
+-- one lemma per case, given the readings of the parts
 module _ (rest : List ℕ) (d : ℕ) (ds : List ℕ) (p : ℕ) (w : TreeWords) where
   leaf-case :
       {n : ℕ} {bytes xs : List ℕ} → bytes ≡ 40 ∷ 35 ∷ (xs ++ (41 ∷ [])) → Numeral xs n →

@@ -1,4 +1,4 @@
--- THE ANSWERS: accepted, 15, 4 and 5, each exactly where its sentence says.
+-- THE ANSWERS: accepted, 15, 4 and 5, each exactly when stated.
 use mathlib.Core.Path.{_≡_, refl, sym, _∙_, ap}
 use mathlib.Core.Bool.{Bool, true, false}
 use mathlib.Core.List.{List, [], _++_, append-assoc}
@@ -86,7 +86,7 @@ answered bytes = go (text-read bytes) refl (text-comes-to bytes)
     go (leaves p) e l = left p l e (left-answer bytes p e)
     go (whole w) e s = of-grammar s (counted bytes s)
 
--- NUMBERS TELL THE ANSWERS APART
+-- THE NUMBERS DISTINGUISH THE ANSWERS
 refused-number : (bytes : List ℕ) (n p : ℕ) → text-answer bytes ≡ refused-by n p → text-answer bytes .number ≡ n
 unfolding refused-by
 refused-number bytes n p e = ap (λ r. r .number) e
@@ -122,7 +122,7 @@ module _ (bytes : List ℕ) where
   not-15 (domains-over a answer) e = omega (arith, refused-number bytes 4 0 answer)
   not-15 (threads-over a answer) e = omega (arith, refused-number bytes 5 0 answer)
 
-  -- a text of the grammar is not left anywhere
+  -- a text of the grammar is never answered with 15
   text-not-15 : Some-text bytes → text-answer bytes .number ≢ 15
   text-not-15 s = not-15 (counted bytes s)
 

@@ -1,4 +1,4 @@
--- What the tests of a byte say of it, and limits of numbers.
+-- What the tests of a byte imply, and limits of numbers.
 use mathlib.Core.Path.{_≡_, refl, sym, _∙_}
 use mathlib.Core.Bool.{Bool, true, false}
 use mathlib.Core.Logic.{_⊎_, inl, inr}
@@ -38,7 +38,7 @@ pub least-above : (m n : ℕ) → m ≤ n → least m n ≡ m
 unfolding least
 least-above m n h = by-test (λ k. k ≡ m) (ltb n m) n m (λ e. absurd (omega (arith, ltb-true n m e))) (λ e. refl)
 
--- a count that stops at a limit stops there with every digit more
+-- a count capped at 257 before a further digit gives the same capped count
 pub least-grown : (n b : ℕ) → least 257 (grown (least 257 n) b) ≡ least 257 (grown n b)
 least-grown n b = go (ltb n 257) refl
   where

@@ -1,4 +1,4 @@
--- Domains and threads that are laid out stay where they stand, whatever is laid out after them.
+-- Domains and threads that are laid out keep their places, whatever is laid out after them.
 use mathlib.Core.Path.{_≡_, refl, sym, _∙_, ap}
 use mathlib.Core.List.{List, [], _∷_, _++_, append-assoc, append-nil}
 use Prim.Native.Nat.{ℕ, _+_, _≤_, _<_}
@@ -87,7 +87,7 @@ mutual
 pub parents-longer : (l m : Laid) → Extends l m → length (l .parents) ≤ length (m .parents)
 parents-longer l m a = omega (arith, ap length (a .parents-extend), length-append (l .parents) (a .more-parents))
 
--- one threshold to each domain
+-- one threshold for each domain
 abbrev pub As-many : Laid → Type 0
 As-many l = length (l .thresholds) ≡ length (l .parents)
 

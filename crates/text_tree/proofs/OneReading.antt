@@ -1,4 +1,4 @@
--- Each text has one reading.
+-- A text is the text of only one tree.
 use mathlib.Core.Path.{_≡_, refl, sym, _∙_, ap}
 use mathlib.Core.List.{List, [], _∷_, _++_, append-assoc}
 use Prim.Native.Nat.{ℕ, _≤_, _<_}
@@ -13,7 +13,7 @@ heads a b xs ys e = cc
 tails : (a b : ℕ) (xs ys : List ℕ) → a ∷ xs ≡ b ∷ ys → xs ≡ ys
 tails a b xs ys e = cc
 
--- digits end at the first byte that is none
+-- digits end at the first byte that is no digit
 digits-one :
     {xs ys : List ℕ} → Digits xs → Digits ys → (b c : ℕ) (x y : List ℕ) → b < 48 → c < 48 → xs ++ (b ∷ x) ≡ ys ++ (c ∷ y) →
     (xs ≡ ys) × (b ∷ x ≡ c ∷ y)
@@ -58,7 +58,7 @@ list-begins : {k : ℕ} {bytes : List ℕ} {es : Domains} → Domains-text k byt
 list-begins (last-text {ys = ys} e x f y) = rw e (numeral-begins x ys)
 list-begins (more-text {ys = ys} {zs = zs} e x f y z) = rw e (numeral-begins x (ys ++ (32 ∷ zs)))
 
--- one case each
+-- one lemma per case
 leaf-leaf :
     {m n : ℕ} {ps qs xs ys : List ℕ} (x y : List ℕ) → ps ≡ 40 ∷ 35 ∷ (xs ++ (41 ∷ [])) → Numeral xs m → qs ≡ 40 ∷ 35 ∷ (ys ++ (41 ∷ [])) →
     Numeral ys n → ps ++ x ≡ qs ++ y → (leaf m ≡ leaf n) × (x ≡ y)
@@ -87,7 +87,7 @@ inner-inner {es} {fs} {ps} {qs} xs ys x y p q e ih =
     let r = ih (sym (append-assoc xs (41 ∷ []) x) ∙ inside ∙ append-assoc ys (41 ∷ []) y) in
     (ap inner (r .0), r .1)
 
--- two domains, whatever stands after them: their thresholds, their trees and what stands after are the same
+-- two domains with the same bytes, whatever follows them: their thresholds, their trees and what follows are the same
 domain-domain :
     {k l g h : ℕ} {xs ys us vs : List ℕ} {t u : Shape} (x y : List ℕ) → Numeral xs g → Tree-text k us t → Numeral ys h → Tree-text l vs u →
     xs ++ (us ++ x) ≡ ys ++ (vs ++ y) → (us ++ x ≡ vs ++ y → (t ≡ u) × (x ≡ y)) → (g ≡ h) × ((t ≡ u) × (x ≡ y))
@@ -101,7 +101,7 @@ domain-domain {xs = xs} {ys} {us} {vs} x y a t b u e ih =
     (ap (λ l. xs ++ l) (sym open-us) ∙ e ∙ ap (λ l. ys ++ l) open-vs) in
     (r .0, ih (open-us ∙ r .1 ∙ sym open-vs))
 
--- after a domain the list goes on or is closed
+-- after a domain the list continues or is closed
 regroup : (xs ys zs rest : List ℕ) → (xs ++ (ys ++ (32 ∷ zs))) ++ rest ≡ xs ++ (ys ++ (32 ∷ (zs ++ rest)))
 regroup xs ys zs rest = simp append-assoc
 

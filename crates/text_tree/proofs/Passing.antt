@@ -1,4 +1,4 @@
--- NOTHING ELSE REFUSES: an accepted text's tree passes the tests of a fresh lock, and every domain has a thread under it.
+-- NOTHING ELSE REFUSES: the tree of an accepted text passes the tests of a fresh lock, and every domain has a thread under it.
 use mathlib.Core.Path.{_≡_, refl, _∙_}
 use mathlib.Core.Bool.{Bool, true, false, _&&_, not}
 use mathlib.Core.List.{List, []}
@@ -24,7 +24,7 @@ use Rattle.text_tree.proofs.Shapes.{tree-block}
 use Rattle.text_tree.proofs.Stored.{whole-holds}
 use Rattle.text_tree.proofs.Deciding.{accepted-law}
 
--- STEPS UP are what the tests count
+-- STEPS UP are what the depth tests count
 up-depth : (t : Tree) {c n : ℕ} → Up (t .parent) c 0 n → (fuel : ℕ) → depth-from fuel t c ≤ n
 unfolding depth-from
 up-depth t (arrived e) zero = omega arith

@@ -1,4 +1,4 @@
--- What a text comes to, said by the grammar: it is a text, or the place is where it can no longer become one.
+-- The result of a text in terms of the grammar: it is a text, or the place is where it can no longer become one.
 use mathlib.Core.Path.{_≡_, refl, sym, _∙_}
 use mathlib.Core.Bool.{Bool, true, false, cond}
 use mathlib.Core.List.{List, [], _∷_, _++_, append-assoc, append-nil}
@@ -23,7 +23,7 @@ place-of (domain-due d ds p w) = p
 place-of (in-threshold h d ds p w) = p
 place-of (closed ds p w) = p
 
--- a byte that is read is one more; reading is stuck where it stands
+-- each byte read advances the position; if reading is stuck, it stays there
 abbrev Counts : Moved → (place : ℕ) → Type 0
 Counts (stuck p) n = p ≡ n
 Counts (to q) n = place-of q ≡ n + 1
@@ -54,7 +54,7 @@ counts (closed (d ∷ ds) p w) b =
     counts-either p (eqb b 32) (to (domain-due d ds (p + 1) w)) (cond (eqb b 41) (to (closed ds (p + 1) w)) (stuck p)) refl
     (counts-either p (eqb b 41) (to (closed ds (p + 1) w)) (stuck p) refl refl)
 
--- where reading is stuck, the bytes after are no matter
+-- once reading is stuck, the bytes after that do not matter
 pub left-at : (bs : List ℕ) (p : ℕ) → read-on bs (stuck p) ≡ leaves p
 unfolding read-on
 left-at [] p = refl
@@ -112,7 +112,7 @@ pub text-comes-to : (bs : List ℕ) → Comes-to [] bs (text-read bs)
 unfolding text-read
 text-comes-to bs = comes-to bs at-start [] (λ ys t x. record { shape = t; text = x }) refl
 
--- STUCK FOR GOOD
+-- STUCK, WHATEVER BYTES FOLLOW
 same-place : (p q : ℕ) → leaves p ≡ leaves q → p ≤ q
 same-place p q e = let same : p ≡ q = cc in omega arith
 

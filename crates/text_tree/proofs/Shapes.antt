@@ -14,7 +14,7 @@ numeral-some : {xs : List ℕ} {n : ℕ} → Numeral xs n → 1 ≤ n
 numeral-some (numeral {b} {bs} lo hi x) = rw (first-value b bs) (omega (arith, value-grows (b - 48) bs))
 
 module _ (f g k : ℕ → ℕ) where
-  -- the block of a domain's tree: its number is the last before those below it
+  -- the block of a domain's tree; the domains below it have the next numbers
   abbrev Tree-block : Shape → (domain : ℕ) → Laid → (levels : ℕ) → Type 0
   Tree-block t d l n =
       Block f g k d d (length (l .parents)) (length (tree-laid t d l .parents)) (length (l .homes)) (length (tree-laid t d l .homes)) n
@@ -94,7 +94,7 @@ module _ (f g k : ℕ → ℕ) where
   unfolding tree-laid
   inner-agrees es d l a = a
 
-  -- one threshold to each domain, and a parent among the domains, also where more is laid out
+  -- there is one threshold per domain, and a parent is among the domains, also after more is laid out
   child-many : (l : Laid) (p h : ℕ) → As-many l → As-many (domain-laid l p h)
   child-many l p h many = as-many-still l (domain-laid l p h) (domain-extends l p h) many
 

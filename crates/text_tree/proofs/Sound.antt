@@ -1,4 +1,4 @@
--- Where reading stands, bytes after it make a text: the bytes that were read are the beginning of one.
+-- At every position of the reader, bytes can follow that make a text: the bytes read so far are the beginning of one.
 use mathlib.Core.Path.{_≡_, refl}
 use mathlib.Core.Bool.{cond}
 use mathlib.Core.List.{List, [], _∷_, _++_, append-assoc, append-nil}
@@ -15,13 +15,13 @@ use Rattle.text_tree.specs.Reading.{Position, at-start, opened, count-du
 use Rattle.text_tree.proofs.Digits.{digit-bounds, first-digit-bounds, grows-digit, grows-limit}
 use Rattle.text_tree.proofs.Complete.{first-value}
 
--- what may stand after a domain, as many parentheses being open
+-- what may follow a domain, given the number of open parentheses
 pub data Rest : (open-above : ℕ) → (bytes : List ℕ) → Type 0 where
   at-end : Rest 0 []
   closes : {j : ℕ} {z : List ℕ} → Rest j z → Rest (suc j) (41 ∷ z)
   goes-on : {j k : ℕ} {x z : List ℕ} {es : Domains} → j + k ≡ 4 → Domains-text k x es → Rest j z → Rest (suc j) (32 ∷ (x ++ (41 ∷ z)))
 
--- bytes after those that were read make a text, whichever way is open
+-- the bytes read so far become a text with any bytes that may follow at this position
 abbrev pub Reaches : Position → (bytes : List ℕ) → Type 0
 Reaches at-start u = (ys : List ℕ) (t : Shape) → Text ys t → Some-text (u ++ ys)
 Reaches (opened d ds p w) u =
@@ -44,14 +44,14 @@ abbrev pub Moves-to : Moved → (bytes : List ℕ) → Type 0
 Moves-to (stuck p) u = Unit
 Moves-to (to q) u = Reaches q u
 
--- one byte more in front of the others
+-- a byte that was read, grouped with the bytes before it
 behind : (u : List ℕ) (b : ℕ) (rest : List ℕ) → Some-text (u ++ (b ∷ rest)) → Some-text ((u ++ (b ∷ [])) ++ rest)
 behind u b rest s = rw (append-assoc u (b ∷ []) rest) s
 
 regroup : (xs ys zs rest : List ℕ) → (xs ++ (ys ++ (32 ∷ zs))) ++ (41 ∷ rest) ≡ xs ++ (ys ++ (32 ∷ (zs ++ (41 ∷ rest))))
 regroup xs ys zs rest = simp append-assoc
 
--- the ways from position to position
+-- the moves from position to position
 module _ (u : List ℕ) (d : ℕ) (ds : List ℕ) (p : ℕ) (w : TreeWords) where
   open-count : Reaches (opened d ds p w) u → Reaches (count-due d ds (p + 1) w) (u ++ (35 ∷ []))
   open-count r = (
@@ -128,7 +128,7 @@ open-root u r = (lit≤ tt, λ k ys z t l tree rest. behind u 40 (ys ++ z) (only
         let same : k ≡ 5 = omega arith in
         rw (append-nil ys) (r (40 ∷ ys) t (rw same at tree))
 
--- every byte that is read leads on
+-- after every byte that can be read, a text can still be reached
 pub moves : (q : Position) (b : ℕ) (u : List ℕ) → Reaches q u → Moves-to (move q b) (u ++ (b ∷ []))
 unfolding move
 moves at-start b u r =

@@ -1,4 +1,4 @@
--- The words that reading adds are those of the tree, as long as there is room for them.
+-- The words that reading adds are those of the tree, as long as the arrays are long enough.
 use mathlib.Core.Path.{_≡_, refl, sym, _∙_, ap}
 use mathlib.Core.Bool.{Bool, true, false}
 use mathlib.Core.List.{List, [], _∷_, _++_, append-assoc}
@@ -94,7 +94,7 @@ module _ (w : TreeWords) (l : Laid) (p q h : ℕ) (a : Holds w l) where
       go true e = let f = ltb-true (length (l .parents)) 64 e in domain-fits f (same f)
       go false e = domain-over (ltb-false (length (l .parents)) 64 e)
 
--- the number that reading gives to the next domain
+-- the number that the next domain gets in reading
 pub number-held : (w : TreeWords) (l : Laid) → Holds w l → length (l .parents) < 64 → new-number (w .domains) ≡ length (l .parents)
 unfolding new-number
 number-held w l a f =
@@ -123,7 +123,7 @@ fill-next room xs n d h =
 pub by-least : {C : Type 0} (m n : ℕ) → (n ≤ m → least m n ≡ n → C) → (m ≤ n → least m n ≡ m → C) → C
 by-least m n f g = ⊎-elim (λ c. f (c .0) (c .1)) (λ c. g (c .0) (c .1)) (least-cases m n)
 
--- counts that stop at a limit add up to a count that stops there
+-- capped counts add up to the capped sum
 counts-add : (m n : ℕ) → threads-after (least 257 m) (least 257 n) ≡ least 257 (m + n)
 unfolding threads-after
 counts-add m n =
@@ -206,7 +206,7 @@ more-holds :
 unfolding tree-added tree-laid
 more-holds h t es p q w l a = a
 
--- numbers agree as long as there is room for one domain more
+-- the numbers agree as long as one more domain fits
 number-same :
     (w : TreeWords) (l : Laid) (q h : ℕ) → Holds w l → length (domain-laid l q h .parents) ≤ 64 → new-number (w .domains) ≡ length (l .parents)
 unfolding domain-laid

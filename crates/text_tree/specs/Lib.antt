@@ -1,4 +1,4 @@
--- What a reader must believe: the grammar, what reading answers, the laws and cases. Words and Reading say how the reader goes.
+-- The definitions that a reader must trust: the grammar, what reading answers, the laws and cases. Words and Reading describe how the reader works.
 pub mod Grammar
 pub mod Words
 pub mod Reading

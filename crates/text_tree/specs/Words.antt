@@ -1,4 +1,4 @@
--- The words of a tree while its text is read: counts stop at one more than there is room for, and words without room are not stored.
+-- The words of a tree while its text is read: counts stop at one more than the limit, and words beyond the arrays are not stored.
 use mathlib.Core.Bool.{cond}
 use mathlib.Core.List.{List}
 use Prim.Native.Nat.{ℕ, _+_, _-_}
@@ -7,14 +7,15 @@ use lib.ListN.{set, replicate}
 use lib.Seq.{sets}
 use Rattle.model.specs.declared.TreeWords.{TreeWords}
 
+-- the smaller of a limit and a number
 unfoldable pub least : (limit number : ℕ) → ℕ
 least limit n = cond (ltb n limit) n limit
 
--- refused, the reader gives no domains and no threads
+-- the words of a refused text: no domains and no threads
 unfoldable pub no-words : TreeWords
 no-words = record { domains = 0; threads = 0; parents = replicate 64 0; thresholds = replicate 64 0; homes = replicate 256 0; «ticket_root» = 0 }
 
--- after the first parenthesis: the root alone
+-- after the first parenthesis: only the root
 unfoldable pub root-words : TreeWords
 root-words = record { domains = 1; threads = 0; parents = replicate 64 0; thresholds = replicate 64 0; homes = replicate 256 0; «ticket_root» = 0 }
 
@@ -22,7 +23,7 @@ root-words = record { domains = 1; threads = 0; parents = replicate 64 0; thresh
 unfoldable pub new-number : (domains : ℕ) → ℕ
 new-number n = cond (ltb n 64) n 64
 
--- one domain more, with its parent and threshold
+-- the tree with one more domain, its parent and threshold
 unfoldable pub domain-added : TreeWords → (parent threshold : ℕ) → TreeWords
 domain-added w p h =
     cond (leb 64 (w .domains))
@@ -36,15 +37,15 @@ domain-added w p h =
       «ticket_root» = 0;
     })
 
--- the threads' number with some more
+-- the number of threads after some are added
 unfoldable pub threads-after : (threads count : ℕ) → ℕ
 threads-after t n = least 257 t + least (257 - least 257 t) n
 
--- the homes of the threads from one on to before another
+-- the array with one home for a range of threads; `end` is not included
 abbrev pub filled-from : (homes : List ℕ) → (thread end home : ℕ) → List ℕ
 filled-from hs i end d = sets hs i (replicate (end - i) d)
 
--- as many threads more, with one home
+-- the tree with more threads, all with the same home
 unfoldable pub threads-added : TreeWords → (home count : ℕ) → TreeWords
 threads-added w d n =
     record {

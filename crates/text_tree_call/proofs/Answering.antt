@@ -1,4 +1,4 @@
--- From what the reader came to, to the answer.
+-- The answer, from the result of the reader.
 use mathlib.Core.Path.{_≡_, sym, _∙_, ap}
 use mathlib.Core.List.{List, []}
 use mathlib.Core.Logic.{_≢_}

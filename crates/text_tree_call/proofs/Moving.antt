@@ -1,4 +1,4 @@
--- One byte more is read: where reading stands after it. The end of a text is read as a byte that no text has.
+-- One more byte is read: the position after it. The end of a text is read as a byte that no text contains.
 use mathlib.Core.Path.{_≡_, refl, sym, _∙_}
 use mathlib.Core.Bool.{Bool, true, false, cond}
 use mathlib.Core.List.{List, [], _∷_}
@@ -17,7 +17,7 @@ use Rattle.text_tree_call.specs.Inner.{from}
 use Rattle.text_tree.proofs.Digits.{digit-bounds, first-digit-bounds}
 use Rattle.text_tree.proofs.Places.{left-at}
 
--- a byte that is not 0 stands in the text
+-- a byte that is not 0 is in the text
 pub in-text : (bs : List ℕ) (at : ℕ) → 0 < getD bs at 0 → at < length bs
 in-text bs at h = go (ltb at (length bs)) refl
   where
@@ -41,7 +41,7 @@ nothing-left at bs h = empty (drop at bs) (omega (arith, length-drop at bs))
     empty [] e = refl
     empty (x ∷ xs) e = absurd (omega arith)
 
--- every position but that after a whole text
+-- every position except the one after a whole text
 abbrev pub Unfinished : Position → Type 0
 Unfinished at-start = Unit
 Unfinished (opened d ds p w) = Unit

@@ -1,4 +1,4 @@
--- What the functions inside the reader promise, one case of their code each.
+-- What the functions inside the reader promise, one lemma for each case of their code.
 use mathlib.Core.Path.{_≡_, sym, _∙_, ap}
 use mathlib.Core.Bool.{true, false}
 use mathlib.Core.List.{List, [], _∷_}
@@ -101,7 +101,7 @@ module _ (bs : List ℕ) (at : ℕ) (w : TreeWords) (d : ℕ) (r : Number) (read
       let stop : Threshold-stopped bs at (Value end h) = rw e at (read .stopped) in
       stop .2
 
--- BEHIND A DOMAIN OF A LIST
+-- AFTER A DOMAIN OF A LIST
 module _ (bs : List ℕ) (r : Reached) where
   pub follows-stuck : (p : ℕ) → r ≡ Stuck p → Followed bs r (Over (Stuck p))
   follows-stuck p e = record { same = λ d ds w. ap (resumed bs (d ∷ ds) w) e; further = λ at h. tt }
@@ -149,7 +149,7 @@ module _ (bs : List ℕ) (at : ℕ) (w : TreeWords) (d left : ℕ) where
         within = read .within;
       }
 
--- A LIST: where another domain is due, the text comes to what it comes to from the list's first domain
+-- A LIST: if another domain must follow, reading on from here gives the same as reading from the list's first domain
 pub record Due-again (bs : List ℕ) (start : ℕ) (before : TreeWords) (d left at : ℕ) (w : TreeWords) : Type 0 where
   pub same :
       (ds : List ℕ) → length ds + left ≡ 4 → from bs start (domain-due d ds start before) ≡ from bs at (domain-due d ds at w)
@@ -161,7 +161,7 @@ module _ (bs : List ℕ) (start : ℕ) (before : TreeWords) (d left at : ℕ) (w
       record { same = λ ds l. here .same ds l ∙ begun .same ds ∙ ap (inside bs (new-number (w .domains)) d ds (b .tree)) e; within = tt }
 
   module _ (open-at : ℕ) (e : b .reached ≡ Behind open-at) (r : Reading) (read : Domain-read bs open-at (b .tree) (new-number (w .domains)) left r) (f : Next) (next : Followed bs (r .reached) f) where
-    -- up to after the domain
+    -- from the list's start to after the domain
     list-same :
         (ds : List ℕ) → length ds + left ≡ 4 → from bs start (domain-due d ds start before) ≡ followed bs d ds (r .tree) f
     list-same ds l =

@@ -1,4 +1,4 @@
-// Reading a tree: reading a domain calls reading its list, which calls reading a domain; the levels left fall.
+// Reading a tree by mutual recursion of domains and lists of domains; the number of levels left decreases.
 ghost use mathlib.Core.Path.{_≡_};
 ghost use Prim.Native.Nat.{_≤_};
 ghost use Rattle.text_tree_call.specs.Inner.{Root-read, Leaf-read, Begun, Followed, Domain-read, List-read};
@@ -22,7 +22,7 @@ fn narrow(x: u32) -> u16
     x as u16
 }
 
-// Behind `#`: a thread count and the closing parenthesis.
+// After `#`: a thread count and the closing parenthesis.
 fn read_leaf(text: &[u8], at: usize, tree: TreeWords, domain: u8) -> Reading
     ensures { λ r. ⌜ Leaf-read (now (text .entry)) at tree domain r ⌝ }
 {
@@ -48,7 +48,7 @@ fn read_leaf(text: &[u8], at: usize, tree: TreeWords, domain: u8) -> Reading
     }
 }
 
-// Where a domain is due: its threshold and its opening parenthesis.
+// At the start of a domain: its threshold and its opening parenthesis.
 fn begin_domain(text: &[u8], at: usize, tree: TreeWords, parent: u8) -> Reading
     ensures { λ r. ⌜ Begun (now (text .entry)) at tree parent r ⌝ }
 {
@@ -74,7 +74,7 @@ fn begin_domain(text: &[u8], at: usize, tree: TreeWords, parent: u8) -> Reading
     }
 }
 
-// Behind a domain of a list: a space and another one, or the closing parenthesis.
+// After a domain of a list: a space and another domain, or the closing parenthesis.
 fn follow(text: &[u8], reached: Reached) -> Next
     ensures { λ r. ⌜ Followed (now (text .entry)) reached r ⌝ }
 {
@@ -93,7 +93,7 @@ fn follow(text: &[u8], reached: Reached) -> Next
     }
 }
 
-// A domain from after its opening parenthesis to after its closing one; `left` levels may lie below it.
+// A domain, from after its opening parenthesis to after its closing one; at most `left` levels are below it.
 fn read_domain(text: &[u8], at: usize, tree: TreeWords, domain: u8, left: usize) -> Reading
     ensures { λ r. ⌜ Domain-read (now (text .entry)) at tree domain left r ⌝ }
 {
@@ -109,7 +109,7 @@ fn read_domain(text: &[u8], at: usize, tree: TreeWords, domain: u8, left: usize)
     read_list(text, at, tree, domain, left - 1)
 }
 
-// The domains below a domain, to after its closing parenthesis; `left` levels may lie below them.
+// The domains below a domain, up to after its closing parenthesis; at most `left` levels are below them.
 fn read_list(text: &[u8], start: usize, before: TreeWords, domain: u8, left: usize) -> Reading
     ensures { λ r. ⌜ List-read (now (text .entry)) start before domain left r ⌝ }
 {
@@ -145,7 +145,7 @@ fn read_list(text: &[u8], start: usize, before: TreeWords, domain: u8, left: usi
     }
 }
 
-// The whole tree: the root has no threshold, and five levels may lie below it.
+// The whole tree: the root has no threshold, and at most five levels are below it.
 pub(crate) fn read_root(text: &[u8]) -> Reading
     ensures { λ r. ⌜ Root-read (now (text .entry)) r ⌝ }
 {

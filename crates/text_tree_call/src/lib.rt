@@ -8,19 +8,19 @@ ghost use Rattle.text_tree.specs.Answers.{text-answer, refused-by, counted-repl
 use model::TreeWords;
 use text_tree::TextReply;
 
-// How far reading a domain came: after it, or to a byte with which no text could continue.
+// How far reading a domain came: after it, or to a byte with which no text continues.
 pub(crate) enum Reached {
     Behind(usize),
     Stuck(usize),
 }
 
-// The tree as far as it was read.
+// The tree read so far.
 pub(crate) struct Reading {
     reached: Reached,
     tree: TreeWords,
 }
 
-// Behind a domain of a list: another one is due, or the list is over, closed or not.
+// After a domain of a list: another one must follow, or the list is over, closed or not.
 pub(crate) enum Next {
     Due(usize),
     Over(Reached),
@@ -60,7 +60,7 @@ fn tree_reply(read: TreeWords) -> TextReply
     }
 }
 
-// Reads a tree: the whole text, nothing before it and nothing behind.
+// Reads a tree from the whole text, with nothing before it and nothing after it.
 pub fn read_text(text: &[u8]) -> TextReply
     ensures { λ r. ⌜ r ≡ text-answer (now (text .entry)) ⌝ }
 {

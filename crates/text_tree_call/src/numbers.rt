@@ -7,7 +7,7 @@ ghost use Rattle.text_tree.specs.Reading.{is-digit, is-first-digit, grown, grow
 ghost use Rattle.text_tree_call.specs.Inner.{Count-read, Count-ended, Threshold-read, Threshold-ended};
 use crate::Number;
 
-// The byte at a position; 0, which no text has, after the text.
+// The byte at a position; 0, which no text contains, after the end of the text.
 pub(crate) fn byte_at(text: &[u8], at: usize) -> u8
     ensures { λ r. ⌜ r ≡ getD (now (text .entry)) at 0 ⌝ }
 {
@@ -32,7 +32,7 @@ fn is_first_digit_byte(b: u8) -> bool
     b < 58
 }
 
-// A number with one digit more.
+// A number with one more digit.
 fn grow(number: u32, b: u8) -> u32
     requires { ⌜ number ≤ 65535 ⌝ }
     requires { ⌜ 48 ≤ b ⌝ }
@@ -41,7 +41,7 @@ fn grow(number: u32, b: u8) -> u32
     10 * number + casts::byte_number(b - 48)
 }
 
-// A count with one digit more; more than 257 threads are as many as 257.
+// A count with one more digit; counts above 257 become 257.
 fn grow_count(number: u32, b: u8) -> u32
     requires { ⌜ number ≤ 257 ⌝ }
     requires { ⌜ 48 ≤ b ⌝ }
@@ -51,7 +51,7 @@ fn grow_count(number: u32, b: u8) -> u32
     if more < 257 { more } else { 257 }
 }
 
-// Whether a threshold with one digit more is still a threshold.
+// Whether a threshold with one more digit is still at most 65,535.
 fn grows_with(number: u32, b: u8) -> bool
     requires { ⌜ number ≤ 65535 ⌝ }
     ensures { λ r. ⌜ r ≡ grows number b ⌝ }
@@ -62,7 +62,7 @@ fn grows_with(number: u32, b: u8) -> bool
     grow(number, b) < 65536
 }
 
-// The other digits of a thread count.
+// The remaining digits of a thread count.
 fn read_more_count(text: &[u8], start: usize, first: u32) -> Number
     requires { ⌜ first ≤ 257 ⌝ }
     ensures { λ r. ⌜ Count-ended (now (text .entry)) start first r ⌝ }
@@ -87,7 +87,7 @@ pub(crate) fn read_count(text: &[u8], at: usize) -> Number
     read_more_count(text, at + 1, casts::byte_number(b - 48))
 }
 
-// The other digits of a threshold, as long as it is one.
+// The remaining digits of a threshold, as long as it is at most 65,535.
 fn read_more_threshold(text: &[u8], start: usize, first: u32) -> Number
     requires { ⌜ first ≤ 65535 ⌝ }
     ensures { λ r. ⌜ Threshold-ended (now (text .entry)) start first r ⌝ }

@@ -1,4 +1,4 @@
-// The words of a tree while its text is read. Counts stop at one more than there is room for; words without room are not stored.
+// The words of a tree while its text is read. Counts stop at one more than the limit; words beyond the arrays are not stored.
 ghost use mathlib.Core.Path.{_≡_};
 ghost use Prim.Native.Nat.{_≤_};
 ghost use Rattle.text_tree.specs.Words.{no-words, root-words, least, filled-from, new-number, domain-added, threads-added};
@@ -23,7 +23,7 @@ pub(crate) fn no_tree() -> TreeWords
     }
 }
 
-// The root alone.
+// Only the root.
 pub(crate) fn root_tree() -> TreeWords
     ensures { λ r. ⌜ r ≡ root-words ⌝ }
 {
@@ -44,7 +44,7 @@ pub(crate) fn next_number(domains: u32) -> u8
     if domains < 64 { domains as u8 } else { 64 }
 }
 
-// One domain more, below a parent.
+// The tree with one more domain below a parent.
 pub(crate) fn add_domain(tree: TreeWords, parent: u8, threshold: u16) -> TreeWords
     ensures { λ r. ⌜ r ≡ domain-added tree parent threshold ⌝ }
 {
@@ -75,7 +75,7 @@ pub(crate) fn add_domain(tree: TreeWords, parent: u8, threshold: u16) -> TreeWor
     }
 }
 
-// The homes from one thread to before another.
+// The homes with one home for the threads from one index up to another, excluded.
 fn fill_homes(homes: [u8; 256], from: usize, end: usize, home: u8) -> [u8; 256]
     requires { ⌜ end ≤ 256 ⌝ }
     ensures { λ r. ⌜ r ≡ filled-from homes from end home ⌝ }
@@ -89,7 +89,7 @@ fn fill_homes(homes: [u8; 256], from: usize, end: usize, home: u8) -> [u8; 256]
     filled
 }
 
-// As many threads more, with one home.
+// The tree with more threads, all with the same home.
 pub(crate) fn add_threads(tree: TreeWords, home: u8, count: u32) -> TreeWords
     ensures { λ r. ⌜ r ≡ threads-added tree home count ⌝ }
 {

@@ -1,4 +1,4 @@
--- From fresh, a thread's beginnings are its finished attempts and the one under way.
+-- From fresh, the attempts that a thread begins are those that it finishes and the one under way.
 use mathlib.Core.Path.{_≡_, refl, sym, ap, subst, _∙_}
 use mathlib.Core.Bool.{Bool, true, false, cond, true≢false}
 use mathlib.Core.List.{List, [], _∷_, _++_}
@@ -28,7 +28,7 @@ abbrev one-if : (under-way : ℕ) → ℕ
 one-if a = cond (eqb a 0) 0 1
 
 module _ (i : ℕ) (t : Tree) where
-  -- beginnings, and an attempt from before, are the finished ones and the one under way
+  -- attempts begun, with one from before, are as many as attempts finished, with one still under way
   abbrev Even : (under-way : ℕ) → List Step → Type 0
   Even a xs = beginnings t i xs + one-if a ≡ length (waits-from t i a xs) + one-if (under-way-from t i a xs)
 

@@ -1,4 +1,4 @@
--- A thread's attempts and their total are no more than the entries, since no two of its attempts overlap.
+-- A thread's attempts, and their total wait, are at most the number of entries, since no two of its attempts overlap.
 use mathlib.Core.Path.{_≡_, refl, ap}
 use mathlib.Core.Bool.{Bool, true, false, cond}
 use mathlib.Core.List.{List, [], _∷_, _++_}
@@ -50,7 +50,7 @@ own-entry : (i : ℕ) (x : Step) → enters i x ≡ true → one x ≡ 1
 unfolding enters
 own-entry i x e = ap (λ b. cond b 1 0) (and-both (eqb (x .thread) i) (is-entry (x .kind)) e .1)
 
--- SOME STEPS, with so many entries: where some entries of an attempt are counted already, they may come on top
+-- SOME STEPS and their number of entries; the entries already counted for an attempt are added
 abbrev Few : (start entries : ℕ) → (waits : List ℕ) → (number : ℕ) → Type 0
 Few a e ws n = (length ws ≤ e) × ((total ws + (n - 1) ≤ a - 1 + e) × (largest ws ≤ a - 1 + e))
 
@@ -93,7 +93,7 @@ finished-own t i a (x ∷ xs) = by (enters i x) (begun t i x a) (under-way-after
     by true p c h = omega (arith, length-append (finished p) (waits-from t i c xs), finished-few p .0, h)
     by false p c h = omega (arith, h)
 
--- a step is the entry of one thread at most
+-- a step is the entry of at most one thread
 entered-by : (threads : ℕ) → Step → ℕ
 entered-by zero x = 0
 entered-by (suc n) x = entered-by n x + cond (enters n x) 1 0
@@ -139,7 +139,7 @@ attempts-own t us zero xs = omega arith
 attempts-own t us (suc n) xs =
     omega (arith, length-append (waits-below-from t us n xs) (waits-from t n (getD us n 0) xs), attempts-own t us n xs, finished-own t n (getD us n 0) xs)
 
--- the first numbers of a list
+-- the sum of the first numbers of a list
 sum-first : (n : ℕ) → List ℕ → ℕ
 sum-first zero us = 0
 sum-first (suc n) us = sum-first n us + getD us n 0

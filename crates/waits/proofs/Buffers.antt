@@ -1,4 +1,4 @@
--- THE ROW BUFFER after a call: each row at its place, nothing after them.
+-- THE ROW BUFFER after a call: each row is at its place, and the rest is unchanged.
 use mathlib.Core.Path.{_≡_, refl, ap, _∙_}
 use mathlib.Core.List.{List, [], _∷_, _++_, append-assoc}
 use mathlib.Core.Logic.{_≢_}
@@ -24,7 +24,7 @@ use Rattle.waits.specs.Laws.{Waits-refusal-law, Runs-as, Waits-run-law, 
 use Rattle.waits.proofs.Refusing.{early-passes, early-zero, waits-refusal-law}
 use Rattle.waits.proofs.Sums.{total-join, largest-join}
 
--- ROWS at their places
+-- ROWS and where they are in the buffer
 take-row : (n w m : ℕ) (l : List ℕ) → take 5 (row-with n w m ++ l) ≡ row-with n w m
 unfolding row-with
 take-row n w m l = refl
@@ -53,7 +53,7 @@ module _ (t : Tree) (us : List ℕ) (xs : List Step) where
         | no z ↦ rw (append-assoc (rows-below-from t us n xs) new rest) (row-in n i (new ++ rest) (omega arith))
       ]
 
-  -- a buffer with the rows of so many threads at its front
+  -- a buffer with the rows of the first threads at its front
   module _ (n : ℕ) (B rest : List ℕ) (buffer : B ≡ rows-below-from t us n xs ++ rest) where
     pub row-there : (i : ℕ) → i < n → row-at i B ≡ row-of (waits-from t i (getD us i 0) xs)
     row-there i h = ap (row-at i) buffer ∙ row-in n i rest h
@@ -98,7 +98,7 @@ pub all-long : (t : Tree) (xs : List Step) → length (all-rows t xs) ≡ 5 * (t
 unfolding all-rows row-of row-with
 all-long t xs = length-append (rows-below t (t .threads) xs) (row-of (waits-below t (t .threads) xs)) ∙ (let e = rows-long t [] xs (t .threads) in omega arith)
 
--- what stands in front of the rest of a buffer keeps its length
+-- writing at the front of a buffer keeps its length and its rest
 pub front-long : (n : ℕ) (xs rs : List ℕ) → length xs ≡ n → n ≤ length rs → length (xs ++ drop (length xs) rs) ≡ length rs
 front-long n xs rs l h = length-append xs (drop (length xs) rs) ∙ (let d = length-drop (length xs) rs in omega arith)
 
@@ -153,7 +153,7 @@ module _ (w : TreeWords) (s : LockState) (is b rs : List ℕ) where
             }
       ]
 
-  -- the run's part
+  -- if 18 does not refuse, refusal, reply and trace are the run's
   module _ (n : refused-by w s is b rs .number ≢ 18) where
     pub same-refusal : refused-by w s is b rs ≡ run-refusal t s is (length b)
     unfolding Waits-refusal-law refusal refused-by
@@ -169,7 +169,7 @@ module _ (w : TreeWords) (s : LockState) (is b rs : List ℕ) where
     unfolding waits-answer waits-reply waits-trace run-answer trace-answer
     runs-as = record { reply = ap (λ r. run-reply r s (run t is (s .words)) (counters-after-run t is s)) same-refusal; traced = ap (λ r. run-buffer r b (run t is (s .words))) same-refusal }
 
-  -- what the rows say
+  -- what the rows report
   module _ (e : refused-by w s is b rs .number ≡ 0) where
     abbrev B : List ℕ
     B = waits-rows w s is b rs

@@ -1,4 +1,4 @@
--- THE BUFFERS after a call that goes on: rows and numbers at their places.
+-- THE BUFFERS after a call that continues: rows and numbers are at their places.
 use mathlib.Core.Path.{_≡_, refl, sym, ap, _∙_}
 use mathlib.Core.Bool.{Bool, true, false, cond}
 use mathlib.Core.List.{List, [], _∷_, _++_, append-assoc}
@@ -31,7 +31,7 @@ use Rattle.waits.proofs.Refusing.{early, early-passes, early-zero, wait
 use Rattle.waits.proofs.RefusingOn.{on-early, waits-refused, numbers-decide, on-early-decides, on-early-passes, numbers-fit, on-accepted}
 use Rattle.waits.proofs.Buffers.{same-refusal, taken-all, row-there, row-after, attempts-column, totals-column, largest-column, numbers-long, all-from-long, front-long, front-rest}
 
--- NUMBERS at their places
+-- NUMBERS and where they are in the buffer
 at-seam : (l : List ℕ) (x : ℕ) (rest : List ℕ) → getD (l ++ (x ∷ rest)) (length l) 0 ≡ x
 at-seam [] x rest = refl
 at-seam (y ∷ l) x rest = at-seam l x rest
@@ -54,7 +54,7 @@ module _ (t : Tree) (us : List ℕ) (xs : List Step) where
         | no z ↦ number-in n i (new ∷ rest) (omega arith)
       ])
 
--- what a list of one test answers: its number, or what is answered otherwise
+-- a test gives its own number, or the answer of the tests after it
 one-number : (n : ℕ) (f : ℕ → Bool) (k p : ℕ) (r : Refusal) → (lowest-bad n f k p r .number ≡ n) ⊎ (lowest-bad n f k p r ≡ r)
 unfolding lowest-bad refusal
 one-number n f zero p r = inr refl
@@ -125,7 +125,7 @@ module _ (w : TreeWords) (s : LockState) (is b rs us : List ℕ) where
         refused = λ _. record { reply = rw z; traced = rw z; written = rw z; numbers = rw z };
       }
 
-  -- the run's part
+  -- if neither 18 nor 27 refuses, refusal, reply and trace are the run's
   module _ (not-18 : met .number ≢ 18) (not-27 : met .number ≢ 27) where
     numbers-passed : early t s is (length b) (length rs) .number ≡ 0 → on-early t s is (length b) (length rs) us .number ≡ 0
     unfolding refused-on first-refusal accepted refusal
@@ -150,7 +150,7 @@ module _ (w : TreeWords) (s : LockState) (is b rs us : List ℕ) where
     unfolding waits-on-answer waits-reply waits-on-trace run-answer trace-answer
     runs-as = record { reply = ap (λ r. run-reply r s (run t is (s .words)) (counters-after-run t is s)) as-run; traced = ap (λ r. run-buffer r b (run t is (s .words))) as-run }
 
-  -- what the buffers say
+  -- what the buffers report
   module _ (e : met .number ≡ 0) where
     abbrev B : List ℕ
     B = waits-on-rows w s is b rs us

@@ -1,4 +1,4 @@
--- Two calls one after another give what one call on the joined schedule gives.
+-- Two consecutive calls give the same as one call on the joined schedule.
 use mathlib.Core.Path.{_≡_, refl, sym, ap, _∙_}
 use mathlib.Core.List.{List, _++_}
 use Prim.Native.Nat.{ℕ, zero, suc, _+_, _-_, _≤_, _<_, max}
@@ -33,12 +33,12 @@ capped-both : (a b : ℕ) → capped (a + b) ≡ capped (capped a + capped b)
 unfolding capped
 capped-both a b = omega arith
 
--- ALL THREADS, the second time from the numbers after the first
+-- ALL THREADS; the second call starts with the numbers that the first left
 module _ (t : Tree) (us us′ : List ℕ) (xs ys : List Step) (n : ℕ) (handed-on : (i : ℕ) → i < n → getD us′ i 0 ≡ under-way-from t i (getD us i 0) xs) where
   thread-joined : (i : ℕ) → i < n → waits-from t i (getD us i 0) (xs ++ ys) ≡ waits-from t i (getD us i 0) xs ++ waits-from t i (getD us′ i 0) ys
   thread-joined i h = waits-join t i (getD us i 0) xs ys ∙ ap (λ a. waits-from t i (getD us i 0) xs ++ waits-from t i a ys) (sym (handed-on i h))
 
-  -- a quantity that adds up over lists of waits
+  -- length, total and largest of the waits, from those of the two calls
   lengths-joined : (k : ℕ) → k ≤ n → length (waits-below-from t us k (xs ++ ys)) ≡ length (waits-below-from t us k xs) + length (waits-below-from t us′ k ys)
   unfolding waits-below-from
   lengths-joined zero h = refl

@@ -1,4 +1,4 @@
--- The cases hold: each is computed.
+-- The cases hold, by computation.
 use mathlib.Core.Path.{_≡_, refl, ap, _∙_}
 use mathlib.Core.Bool.{Bool, true, _&&_}
 use mathlib.Core.List.{List, [], _∷_, _++_}
@@ -30,7 +30,7 @@ use Rattle.model.proofs.Tests.{and-both}
 use Rattle.model.proofs.Walks.{walked, Sized, zero-from, first-pass, first-meets, formed-by-walks, same-formed, counts-by-walks, above-by-walks, zipped}
 use Rattle.model.proofs.Computing.{far-below, have-room, walked-counter, tests-by, late-tests, same-late, same-lock-formed, state-sized, sized}
 
--- what refuses a run with waits, by whether the state that it hands in is well formed; 19 is left out where the counters have room
+-- what refuses a run with waits, given whether its state is well formed; 19 is left out if no counter can exceed its limit
 abbrev refused-with-waits : Tree → (formed : Bool) → LockState → (schedule : List ℕ) → (room row-room : ℕ) → Refusal
 refused-with-waits t b s is room n = first-refusal ((tests-by t b (schedule-tests t is ++ room-tests is room) ++ row-room-tests t n) ++ late-tests t s is)
 
@@ -60,7 +60,7 @@ unfoldable all-hold-by-walks : List Case → Bool
 all-hold-by-walks [] = true
 all-hold-by-walks (c ∷ cs) = holds-by-walks c && all-hold-by-walks cs
 
--- the states that the cases hand in are whole, and their schedules short
+-- the arrays in the states of the cases have their full lengths, and the schedules are short
 abbrev case-sized : Case → Bool
 case-sized c = leb (length (c .schedule)) 65536 && state-sized (c .state .words)
 

@@ -9,7 +9,7 @@ use borrow.Author.Tests.{eq-eqb, ne-eqb}
 use Rattle.waits.specs.Rows.{divisor-in, greatest-divisor, mean}
 use Rattle.waits.specs.Laws.{Mean-law}
 
--- where the second number is 0 the first is the answer, else the division goes on
+-- if the second number is 0 the first is the answer, otherwise the division continues
 divisor-ends : (n a b : ℕ) → b ≡ 0 → divisor-in n a b ≡ a
 unfolding divisor-in
 divisor-ends zero a b e = refl
@@ -31,7 +31,7 @@ enough (suc n) (suc m) a b h k =
           divisor-next n a b z ∙ enough n m b (a % b) (omega arith) (omega arith) ∙ sym (divisor-next m a b z))
     ]
 
--- one division of Euclid's
+-- one division of Euclid's algorithm
 pub euclid : (a b : ℕ) → b ≢ 0 → greatest-divisor b (a % b) ≡ greatest-divisor a b
 euclid a b z =
     let l : a % b < b = mod-lt a {m = b} (omega arith) in
@@ -40,7 +40,7 @@ euclid a b z =
 pub euclid-ends : (a b : ℕ) → b ≡ 0 → a ≡ greatest-divisor a b
 euclid-ends a b z = sym (divisor-ends b a b z)
 
--- it divides both, and whatever divides both divides it
+-- it divides both numbers, and every number that divides both divides it
 divides-both : (n a b : ℕ) → b ≤ n → (divisor-in n a b ∣ a) × (divisor-in n a b ∣ b)
 divides-both zero a b h = let z : b ≡ 0 = omega arith in rw (divisor-ends zero a b z) (dvd-refl a, rw z (dvd-zero a))
 divides-both (suc n) a b h =

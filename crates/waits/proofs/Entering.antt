@@ -1,4 +1,4 @@
--- A thread's entries are its attempts, or one more: of the attempt that was under way before the run.
+-- A thread's entries are its attempts, or one more, for the attempt that was under way before the run.
 use mathlib.Core.Path.{_≡_, refl, sym, ap, subst, _∙_}
 use mathlib.Core.Bool.{Bool, true, false, cond, true≢false}
 use mathlib.Core.List.{List, [], _∷_, _++_}
@@ -28,7 +28,7 @@ use Rattle.waits.specs.Attempts.{begins-from, begins, enters, begun, cou
 use Rattle.waits.specs.Laws.{Entry-law}
 use Rattle.waits.proofs.Phases.{on-way, Phase, rests, goes, sets-out, arrives, at-once, phase}
 
--- PLACES after a step of thread j: its own, and the others as they were
+-- PLACES after a step of thread j: its own is the new one, the others are unchanged
 pub place-own : (s : State) (ps : PlaceArrays) (j : ℕ) (q : Place) → ps ≡ store-numbers (s .places) j (words-of q) → Has-room (s .places) j → place-of (numbers-at ps j) ≡ q
 place-own s ps j q e h = ap (λ v. place-of (numbers-at v j)) e ∙ place-stored j q s h
 
@@ -42,7 +42,7 @@ others-kept t j s p x (sets-out q e pl b w v) i n = place-other s (x .state .pla
 others-kept t j s p x (arrives e pl b w) i n = place-other s (x .state .places) i j Inside pl n
 others-kept t j s p x (at-once e pl b w) i n = place-other s (x .state .places) i j Inside pl n
 
--- of attempts: none under way where the thread is not on its way, one where it is
+-- attempts: none under way if the thread is not acquiring, one if it is
 abbrev pub Mode : Bool → ℕ → Type 0
 Mode o a = ((o ≡ false) × (a ≡ 0)) ⊎ ((o ≡ true) × (0 < a))
 
@@ -86,7 +86,7 @@ module _ (i : ℕ) where
     plain-waits : (x : Step) (xs : List Step) (a : ℕ) → x .thread ≡ i → begins-from t i (x .place) ≡ false → is-entry (x .kind) ≡ false → waits-from t i a (x ∷ xs) ≡ waits-from t i (counted x a) xs
     plain-waits x xs a m f g = waits-own x xs a false false m f g
 
-    -- THE STEP: with one attempt under way exactly where the thread is on its way
+    -- THE STEP: with one attempt under way exactly if the thread is acquiring
     own-step :
         (s : State) (x : Step) (xs : List Step) (a : ℕ) (r : Row-result) → x .thread ≡ i → x .kind ≡ r .kind → x .place ≡ place s i → Has-room (s .places) i →
         Phase t i s (place s i) r → Mode (on-way t i (place s i)) a → ((a′ : ℕ) → Mode (on-way t i (place (r .state) i)) a′ → E xs ≡ length (waits-from t i a′ xs)) →
@@ -125,7 +125,7 @@ module _ (i : ℕ) where
         E-own x xs true m g ∙ ap (λ v. 1 + v) (ih 0 (inl (o, refl))) ∙ (let z : 1 + length (waits-from t i 0 xs) ≡ suc (length (waits-from t i 0 xs)) = omega arith in z)
         ∙ sym (ap length (waits-own x xs a true true m f g))
 
-    -- and with none where the thread was on its way before the run
+    -- the step with no attempt counted, if the thread was already acquiring before the run
     own-late :
         (s : State) (x : Step) (xs : List Step) (r : Row-result) → x .thread ≡ i → x .kind ≡ r .kind → x .place ≡ place s i → Has-room (s .places) i →
         Phase t i s (place s i) r → on-way t i (place s i) ≡ true → (on-way t i (place (r .state) i) ≡ false → E xs ≡ length (waits-from t i 0 xs)) →
@@ -197,7 +197,7 @@ module _ (i : ℕ) where
           by true e = late is s A f e
           by false e = inl (exact is s 0 A f (inl (e, refl)))
 
--- in a fresh state everybody is Idle
+-- in a fresh state every thread is Idle
 pub off-way : (t : Tree) (v i : ℕ) → on-way t i (place (fresh-state t v) i) ≡ false
 unfolding on-way
 off-way t v i = ap (on-way t i) (fresh-idle t v i)

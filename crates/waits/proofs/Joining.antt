@@ -1,4 +1,4 @@
--- Steps after steps: the waits of both, and the attempt under way.
+-- Steps followed by more steps: the waits of both, and the attempt under way.
 use mathlib.Core.Path.{_≡_, refl, sym, ap, _∙_}
 use mathlib.Core.List.{List, [], _∷_, _++_, append-assoc}
 use Prim.Native.Nat.{ℕ}

@@ -1,4 +1,4 @@
--- An attempt's wait is the entries between its beginning and its end, and the number of one under way those since its beginning.
+-- The wait of an attempt is the number of entries between its beginning and its end; the number of an attempt under way counts those since its beginning.
 use mathlib.Core.Path.{_≡_, refl, ap, _∙_}
 use mathlib.Core.Bool.{true, false, cond}
 use mathlib.Core.List.{List, [], _∷_, _++_}
@@ -29,7 +29,7 @@ module _ (t : Tree) (i : ℕ) (after : List Step) (y : Step) (by : begins t i y 
   none [] B = rw (ey, by)
   none (x ∷ xs) B = rw (B .0, B .1 .0) (none xs (B .1 .1))
 
--- a step that begins an attempt without entering is nobody's entry
+-- a step that begins an attempt and does not enter is no thread's entry
 no-entry : (t : Tree) (i : ℕ) (x : Step) → begins t i x ≡ true → enters i x ≡ false → is-entry (x .kind) ≡ false
 unfolding begins enters
 no-entry t i x b e = let mine = and-both (eqb (x .thread) i) (begins-from t i (x .place)) b .0 in rw mine at e
@@ -45,7 +45,7 @@ wait-law t i after =
       no-attempt = λ y between B by ey. none t i after y by ey between B;
     }
 
--- THE ATTEMPT UNDER WAY: steps between which the thread neither begins nor enters
+-- THE ATTEMPT UNDER WAY: over steps in which the thread neither begins nor enters
 module _ (t : Tree) (i : ℕ) where
   goes-on : (n : ℕ) (xs : List Step) → Between t i xs → under-way-from t i (suc n) xs ≡ suc n + how-many is-entry xs
   unfolding under-way-from under-way-after begun counted Between how-many

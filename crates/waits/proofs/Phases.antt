@@ -1,4 +1,4 @@
--- A thread is on its way from the beginning of an attempt to its entry, and no step begins another one there.
+-- From the beginning of an attempt to its entry a thread is acquiring, and no step begins another attempt.
 use mathlib.Core.Path.{_≡_, refl, sym, _∙_}
 use mathlib.Core.Bool.{Bool, true, false, _&&_, not, true≢false}
 use mathlib.Core.Logic.{_≢_}
@@ -21,7 +21,7 @@ use Rattle.model.proofs.Trees.Paths.{path-real}
 use Rattle.model.proofs.Trees.Tickets.{queue-facts}
 use Rattle.waits.specs.Attempts.{swaps-at, draws, begins-from}
 
--- on the way: after the beginning of an attempt, and before its entry
+-- acquiring: after the beginning of an attempt, and before its entry
 unfoldable pub on-way : Tree → (thread : ℕ) → Place → Bool
 on-way t i Idle = false
 on-way t i (Prep l) = not (eqb l (t .home i))
@@ -50,7 +50,7 @@ pub data Phase (t : Tree) (i : ℕ) (s : State) (p : Place) (x : Row-result) : T
   at-once : is-entry (x .kind) ≡ true → x .state .places ≡ store-numbers (s .places) i (words-of Inside) → begins-from t i p ≡ true → on-way t i p ≡ false → Phase t i s p x
 
 module _ (t : Tree) (valid : Accepted t) (i : ℕ) (h : i < t .threads) where
-  -- a home has no child domain, so no parent is one, and where there is a domain below the root, no home is the root
+  -- a home has no child domain, so no parent is a home; and if there is a domain below the root, no home is the root
   upward : (l : ℕ) → 0 < l → l < t .domains → t .parent l ≢ t .home i
   unfolding is-leaf is-child
   upward l p r e =
@@ -67,7 +67,7 @@ module _ (t : Tree) (valid : Accepted t) (i : ℕ) (h : i < t .threads) where
       none-and true = refl
       none-and false = refl
 
-  -- a place that begins none
+  -- a place that begins no attempt
   begins-none : (p : Place) → draws p ≡ false → swaps-at (t .home i) p ≡ false → begins-from t i p ≡ false
   unfolding begins-from
   begins-none p d w = by-test (λ (b : Bool). b ≡ false) (is-ticket t (t .home i)) (draws p) (swaps-at (t .home i) p) (λ _. d) (λ _. w)
@@ -90,7 +90,7 @@ module _ (t : Tree) (valid : Accepted t) (i : ℕ) (h : i < t .threads) where
     abbrev Of : Place → Row-result → Type 0
     Of p x = Phase t i s p x
 
-    -- what Draw does, from Idle or from Draw, where it begins an attempt or not
+    -- what Draw does, from Idle or from Draw, whether it begins an attempt or not
     draw-phase : (p : Place) (b : Bool) → begins-from t i p ≡ b → on-way t i p ≡ not b → {x : Row-result} → Branch t i s Draw x → Of p x
     unfolding on-way is-entry
     draw-phase p true f g (draw-shown e) = at-once refl refl f g

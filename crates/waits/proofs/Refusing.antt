@@ -38,7 +38,7 @@ module _ (t : Tree) (s : LockState) (is : List ℕ) (room n : ℕ) where
   unfolding Refusal-law has-number tree-tests waits-tests
   exactly = refusal-law (waits-tests t s is room n) (numbered (waits-tests t s is room n) refl)
 
-  -- BEFORE 19: the run's tests decide where one of them refuses, else the room for rows
+  -- BEFORE 19: the run's tests decide if one of them refuses, otherwise the length of the row buffer
   pub run-decides : run-early .number ≢ 0 → early ≡ run-early
   run-decides = first-decides ran (row-room-tests t n)
 
@@ -54,7 +54,7 @@ module _ (t : Tree) (s : LockState) (is : List ℕ) (room n : ℕ) where
     unfolding bad-row-room first-refusal
     rows-pass h = rows-decide ∙ single-missed _ [] refl (le-ltb (n / 5) (t .threads + 1) (omega arith))
 
-  -- WITH 19: what refuses before it is the answer; where nothing does, 19 decides
+  -- WITH 19: what refuses before it is the answer; if nothing does, 19 decides
   pub early-decides : early .number ≢ 0 → waits-refusal t s is room n ≡ early
   unfolding waits-refusal waits-tests
   early-decides = first-decides (waits-tests-before-19 t s is room n) (counter-tests t s is)
@@ -63,7 +63,7 @@ module _ (t : Tree) (s : LockState) (is : List ℕ) (room n : ℕ) where
   unfolding waits-refusal waits-tests
   counters-decide = other-decides (waits-tests-before-19 t s is room n) (counter-tests t s is) early-numbered
 
-  -- where nothing refuses before 19, neither the run's tests do nor the room for rows
+  -- if nothing refuses before 19, neither do the run's tests nor the length of the row buffer
   pub early-passes : early .number ≡ 0 → (run-early .number ≡ 0) × (5 * (t .threads + 1) ≤ n)
   unfolding refusal
   early-passes e =

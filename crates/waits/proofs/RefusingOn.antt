@@ -1,4 +1,4 @@
--- What refuses a run with waits that goes on, in plain numbers.
+-- What refuses a run with waits that continues, in plain numbers.
 use mathlib.Core.Path.{_≡_, refl, sym, ap, _∙_}
 use mathlib.Core.Bool.{Bool, true, false, _&&_, not}
 use mathlib.Core.List.{List, []}
@@ -53,7 +53,7 @@ module _ (t : Tree) (s : LockState) (is : List ℕ) (room n : ℕ) (us : List �
   unfolding Refusal-law has-number tree-tests waits-on-tests
   exactly = refusal-law (waits-on-tests t s is room n us) (numbered (waits-on-tests t s is room n us) refl)
 
-  -- BEFORE 19: the tests of a run with waits decide where one of them refuses, else the numbers
+  -- BEFORE 19: the tests of a run with waits decide if one of them refuses, otherwise the numbers
   pub waits-decide : early t s is room n .number ≢ 0 → on-early ≡ early t s is room n
   waits-decide = first-decides (waits-tests-before-19 t s is room n) (under-way-tests t us)
 
@@ -68,7 +68,7 @@ module _ (t : Tree) (s : LockState) (is : List ℕ) (room n : ℕ) (us : List �
     unfolding first-refusal
     numbers-pass p L h = numbers-decide ∙ test-missed _ [] p L h
 
-  -- WITH 19: what refuses before it is the answer; where nothing does, 19 decides
+  -- WITH 19: what refuses before it is the answer; if nothing does, 19 decides
   pub on-early-decides : on-early .number ≢ 0 → waits-on-refusal t s is room n us ≡ on-early
   unfolding waits-on-refusal waits-on-tests
   on-early-decides = first-decides (waits-on-tests-before-19 t s is room n us) (counter-tests t s is)
@@ -77,7 +77,7 @@ module _ (t : Tree) (s : LockState) (is : List ℕ) (room n : ℕ) (us : List �
   unfolding waits-on-refusal waits-on-tests
   on-counters-decide = other-decides (waits-on-tests-before-19 t s is room n us) (counter-tests t s is) on-early-numbered
 
-  -- where nothing refuses before 19, neither a test of a run with waits does nor a number
+  -- if nothing refuses before 19, neither does a test of a run with waits nor a number
   pub on-early-passes : on-early .number ≡ 0 → (early t s is room n .number ≡ 0) × ((i : ℕ) → i < 256 → Number-fits t us i)
   on-early-passes e =
       elim (ℕ-discrete (early t s is room n .number) 0) [
@@ -98,7 +98,7 @@ module _ (t : Tree) (s : LockState) (is : List ℕ) (room n : ℕ) (us : List �
       on-early-decides (λ z. h (sym (ap (λ r. r .number) (waits-decide h)) ∙ z)) ∙ waits-decide h ∙ sym (early-decides t s is room n h)
 
   module _ (passes : early t s is room n .number ≡ 0) where
-    -- a number that does not fit, all before it fitting
+    -- the first number that does not fit
     lowest : (i : ℕ) → i < 256 → (Number-fits t us i → ⊥) → ((j : ℕ) → j < i → Number-fits t us j) → Lowest 256 (bad-under-way t us) i
     lowest i h misfit before =
         record { within = omega arith; passed = λ j l. fits-passes t us j (before j l); fails = λ _. by (bad-under-way t us i) refl }

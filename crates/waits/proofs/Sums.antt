@@ -1,4 +1,4 @@
--- Sums and largest of numbers one after another.
+-- Sums and maxima of joined lists of numbers.
 use mathlib.Core.Path.{_≡_, ap, _∙_}
 use mathlib.Core.List.{List, [], _∷_, _++_}
 use Prim.Native.Nat.{ℕ, _+_, max}

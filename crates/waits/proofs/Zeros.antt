@@ -1,4 +1,4 @@
--- Numbers that are all 0 are none, and then no total is cut.
+-- Numbers that are all 0 mean no attempt, and then no total is capped.
 use mathlib.Core.Path.{_≡_, refl, sym, ap, _∙_}
 use mathlib.Core.List.{List, []}
 use Prim.Native.Nat.{ℕ, zero, suc, _*_, _≤_}
@@ -29,7 +29,7 @@ use Rattle.waits.proofs.Bounds.{entries-in, totals-few}
 use Rattle.waits.proofs.Refusing.{early, early-passes, early-zero, waits-refusal-law}
 use Rattle.waits.proofs.RefusingOn.{waits-refused, numbers-fit}
 
--- a total that is a number of 64 bits is not cut
+-- a total that fits in 64 bits is not capped
 pub uncut : (n : ℕ) → n ≤ 18446744073709551615 → capped n ≡ n
 unfolding capped
 uncut n h = omega arith

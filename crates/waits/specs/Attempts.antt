@@ -1,49 +1,22 @@
 -- Document 02, (vi): the attempts of a thread and their waits, from the list of a run's steps, and the attempt that is under way after them.
-use mathlib.Core.Bool.{Bool, true, false, _&&_, cond}
+use mathlib.Core.Bool.{Bool, _&&_, _||_, cond}
 use mathlib.Core.List.{List, [], _∷_, _++_}
 use Prim.Native.Nat.{ℕ, zero, suc, _+_}
 use lib.Dec.{eqb}
 use lib.ListN.{getD}
 use Rattle.model.specs.declared.Place.{Place}
-use Rattle.model.specs.declared.Place.the-variants.{Idle, Prep, Swap, Link, Wait, Inside, Check, Help, Cas, Linger, Grant, Draw, Watch, Raise, Invalid}
+use Rattle.model.specs.declared.Place.the-variants.{Idle, Swap, Draw}
 use Rattle.model.specs.Trees.{Tree, is-ticket}
+use Rattle.model.specs.Places.{words-of, same-row}
 use Rattle.model.specs.Steps.{is-entry, Step}
 
 -- a place is Swap at a domain
 unfoldable pub swaps-at : (domain : ℕ) → Place → Bool
-swaps-at d Idle = false
-swaps-at d (Prep l) = false
-swaps-at d (Swap l) = eqb l d
-swaps-at d (Link l p) = false
-swaps-at d (Wait l) = false
-swaps-at d Inside = false
-swaps-at d (Check l) = false
-swaps-at d (Help l) = false
-swaps-at d (Cas l) = false
-swaps-at d (Linger l) = false
-swaps-at d (Grant l r w) = false
-swaps-at d Draw = false
-swaps-at d Watch = false
-swaps-at d Raise = false
-swaps-at d Invalid = false
+swaps-at d p = same-row p (Swap d) && eqb (words-of p .domain) d
 
 -- a thread whose home is a ticket root draws from this place: Idle's own step, or Draw
 unfoldable pub draws : Place → Bool
-draws Idle = true
-draws (Prep l) = false
-draws (Swap l) = false
-draws (Link l p) = false
-draws (Wait l) = false
-draws Inside = false
-draws (Check l) = false
-draws (Help l) = false
-draws (Cas l) = false
-draws (Linger l) = false
-draws (Grant l r w) = false
-draws Draw = true
-draws Watch = false
-draws Raise = false
-draws Invalid = false
+draws p = same-row p Idle || same-row p Draw
 
 -- from this place a thread begins an attempt: Swap at its home; at a ticket root that is its home, its draw
 unfoldable pub begins-from : Tree → (thread : ℕ) → Place → Bool

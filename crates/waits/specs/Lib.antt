@@ -1,4 +1,4 @@
--- In the order of document 02, request (vi): what a reader must believe about waits. The laws' proofs are in proofs/.
+-- The definitions about waits that a reader must trust, in the order of document 02, (vi). The proofs of the laws are in proofs/.
 pub mod Attempts
 pub mod Rows
 pub mod Refusals

@@ -1,4 +1,4 @@
--- THAT THE DEFINITION OF WAITS SAYS WHAT IT READS: laws. Each is a statement; proofs/ has its proof.
+-- THE DEFINITION OF WAITS MEANS WHAT IT SAYS: laws. These are statements; their proofs are in proofs/.
 use mathlib.Core.Path.{_≡_}
 use mathlib.Core.Bool.{true, false}
 use mathlib.Core.List.{List, [], _∷_, _++_}
@@ -9,12 +9,12 @@ use Rattle.model.specs.Steps.{is-entry, Step}
 use Rattle.model.specs.Runs.{how-many}
 use Rattle.waits.specs.Attempts.{begins, enters, waits-from, under-way-from}
 
--- the thread neither begins an attempt nor enters in these steps, so each entry among them is another thread's
+-- in these steps the thread neither begins an attempt nor enters, so each entry among them is by another thread
 unfoldable pub Between : Tree → (thread : ℕ) → List Step → Type 0
 Between t i [] = Prim.Unit
 Between t i (x ∷ xs) = (begins t i x ≡ false) × ((enters i x ≡ false) × Between t i xs)
 
--- an attempt that begins with one step and finishes with another has as its wait the entries between the two; one that begins and finishes with the same step has none; an entry without a beginning is no attempt
+-- the wait of an attempt that begins with one step and finishes with a later one is the number of entries between the two; an attempt that begins and finishes with the same step has wait 0; an entry without a beginning is no attempt
 pub record Measures (t : Tree) (i : ℕ) (after : List Step) : Type 0 where
   pub attempt :
       (a : ℕ) (x y : Step) (between : List Step) → begins t i x ≡ true → enters i x ≡ false → Between t i between → begins t i y ≡ false → enters i y ≡ true →
@@ -22,10 +22,11 @@ pub record Measures (t : Tree) (i : ℕ) (after : List Step) : Type 0 where
   pub at-once : (a : ℕ) (x : Step) → begins t i x ≡ true → enters i x ≡ true → waits-from t i a (x ∷ after) ≡ 0 ∷ waits-from t i 0 after
   pub no-attempt : (y : Step) (between : List Step) → Between t i between → begins t i y ≡ false → enters i y ≡ true → waits-from t i 0 (between ++ (y ∷ after)) ≡ waits-from t i 0 after
 
+-- for every tree and thread
 unfoldable pub Wait-law : Type 0
 Wait-law = (t : Tree) (i : ℕ) (after : List Step) → Measures t i after
 
--- the number of the attempt under way: one more than the entries since the step that began it, all of other threads. One from before the steps goes on; without a beginning, or after the thread's own entry, there is none
+-- the number of an attempt under way is one more than the entries since the step that began it, all by other threads. An attempt from before the steps continues; without a beginning, or after the thread's own entry, the number is 0
 pub record Numbers (t : Tree) (i : ℕ) (since : List Step) : Type 0 where
   pub begun :
       (a : ℕ) (before : List Step) (x : Step) → begins t i x ≡ true → enters i x ≡ false → Between t i since →
@@ -34,5 +35,6 @@ pub record Numbers (t : Tree) (i : ℕ) (since : List Step) : Type 0 where
   pub none : Between t i since → under-way-from t i 0 since ≡ 0
   pub entered : (a : ℕ) (before : List Step) (y : Step) → enters i y ≡ true → Between t i since → under-way-from t i a (before ++ (y ∷ since)) ≡ 0
 
+-- for every tree and thread
 unfoldable pub Under-way-law : Type 0
 Under-way-law = (t : Tree) (i : ℕ) (since : List Step) → Numbers t i since

@@ -8,7 +8,7 @@ pub struct Fraction {
     pub denominator: u64,
 }
 
-// What the run returns, and how many rows were written. Number 0 is accepted.
+// What the run returns, and how many rows were written. Number 0 means accepted.
 #[repr(C)]
 pub struct WaitsReply {
     pub number: u32,

@@ -1,6 +1,6 @@
 """A proved step model of the hierarchical MCS lock.
 
-Every figure comes from the library libhmcs.so, or from the command hmcs, which takes it from there; nothing is worked out here.
+Every figure comes from the library libhmcs.so, directly or through the command hmcs; nothing is computed here.
 
 >>> import hmcs
 >>> tree = hmcs.Tree.parse("(8(#4) 8(#4))")

@@ -116,7 +116,7 @@ STRUCT_ORDER = [TreeWords, State, Answer, StepAnswer, FreshReply, StepReply, Run
 _bytes, _turns, _number = POINTER(c_uint8), POINTER(c_uint16), POINTER(c_uint32)
 _large = POINTER(c_uint64)
 
-# Of each function what it returns and takes; hmcs.h says what it does.
+# What each function returns and takes; hmcs.h says what it does.
 FUNCTIONS = {
     "hmcs_version": (c_uint32, []),
     "hmcs_sizes": (None, [_number]),
@@ -149,7 +149,7 @@ FUNCTIONS = {
 
 
 def command() -> str:
-    """The path of the installed command: that of HMCS_COMMAND, the one installed with this package, or the one in the search path."""
+    """The path of the command: from HMCS_COMMAND, installed with this package, or in the search path."""
     named = os.environ.get("HMCS_COMMAND")
     found = named or next((path for path in (os.path.join(prefix, "bin", "hmcs") for prefix in _prefixes()) if os.path.exists(path)), None)
     found = found or shutil.which("hmcs")

@@ -22,6 +22,6 @@ class Refused(ValueError):
 
 
 def accepted(number: int, place: int) -> None:
-    """Nothing where the number is 0, else an exception."""
+    """Raises an exception unless the number is 0."""
     if number != 0:
         raise Refused(number, place)

@@ -15,7 +15,7 @@ ROW_NUMBERS = 8
 
 
 class LockFile(NamedTuple):
-    """What a lock file holds."""
+    """The contents of a lock file."""
 
     tree: Tree
     schedule: List[int]
@@ -57,7 +57,7 @@ def run_file(file: bytes) -> str:
 
 
 def check_journal(tree: Tree, journal: bytes) -> None:
-    """Nothing where a plugin's journal agrees with the steps from a fresh lock, else hmcs.Refused, the place being the wrong entry's first byte.
+    """Raises hmcs.Refused unless a plugin's journal agrees with the steps from a fresh lock; the place is the wrong entry's first byte.
 
     >>> check_journal(Tree.parse("(#1)"), bytes([2, 1, 2, 2]))
     """
@@ -66,7 +66,7 @@ def check_journal(tree: Tree, journal: bytes) -> None:
 
 
 def run_many(tree: Tree, schedules: Sequence[Sequence[int]]) -> List[Union[Counts, Refused]]:
-    """What each schedule counts from its own fresh lock; one that is refused gives its refusal, and the others run all the same.
+    """The counts of each schedule from its own fresh lock. A refused schedule gives its refusal, and the others still run.
 
     >>> [row.entries for row in run_many(Tree.parse("(#2)"), [[0, 0, 0], [1]])]
     [1, 0]

@@ -14,7 +14,7 @@ INSIDE = 5  # the row of a thread that is inside
 
 
 class Step(NamedTuple):
-    """What a step was: its kind as a number and in words, and the domain that it was at."""
+    """What a step did: its kind as a number and as text, and its domain."""
 
     kind: int
     text: str
@@ -22,7 +22,7 @@ class Step(NamedTuple):
 
 
 class Counts(NamedTuple):
-    """What a run counts."""
+    """The counts of a run."""
 
     steps: int
     entries: int
@@ -33,7 +33,7 @@ class Counts(NamedTuple):
 
 
 class Run(NamedTuple):
-    """A run: its counts, and the threads that entered, in their order."""
+    """A run: its counts, and the threads in the order they entered."""
 
     counts: Counts
     trace: List[int]
@@ -49,7 +49,7 @@ class Waits(NamedTuple):
 
 
 class WaitsRun(NamedTuple):
-    """A run with waits: of each thread, of all together, and of each thread the others' entries since an attempt under way began, or None."""
+    """A run with waits: of each thread, of all together, and for each thread the others' entries since its attempt under way began, or None."""
 
     run: Run
     threads: List[Waits]
@@ -58,7 +58,7 @@ class WaitsRun(NamedTuple):
 
 
 class Tenures(NamedTuple):
-    """What a lock has counted for a domain."""
+    """The counters of a domain."""
 
     entries: int
     tenures: int
@@ -66,7 +66,7 @@ class Tenures(NamedTuple):
 
 
 def turns(schedule: Sequence[int]) -> "ctypes.Array[ctypes.c_uint16]":
-    """A schedule for the library. A number that no thread has is refused by 12, not cut."""
+    """A schedule for the library. A number that no thread has is refused by 12, not truncated."""
     return (ctypes.c_uint16 * max(1, len(schedule)))(*(turn if 0 <= turn <= 65535 else 65535 for turn in schedule))
 
 
@@ -75,7 +75,7 @@ def counts_of(reply: object) -> Counts:
 
 
 class Lock:
-    """A lock that the caller keeps; each call goes on where the one before ended.
+    """A lock owned by the caller; each call continues where the previous one ended.
 
     >>> lock = Lock(Tree.parse("(2(#2) 16(#1))"))
     >>> lock.step(0).text
@@ -95,7 +95,7 @@ class Lock:
 
     @classmethod
     def saved(cls, tree: Tree, state: State) -> "Lock":
-        """A lock whose state was kept; refused by 10 if it is not well formed."""
+        """A lock with a saved state; refused by 10 if it is not well formed."""
         lock = cls(tree)
         lock.state = State.from_buffer_copy(state)
         lock._answered(library.hmcs_check_state(lock.tree.words, lock.state))
@@ -121,7 +121,7 @@ class Lock:
         return Run(counts_of(reply), list(trace)[: reply.entries])
 
     def run_kinds(self, schedule: Sequence[int]) -> List[Step]:
-        """A run that tells what each of its steps was.
+        """A run that returns what each of its steps did.
 
         >>> [step.text for step in Lock(Tree.parse("(#1)")).run_kinds([0, 0, 0])]
         ['moves on', 'enters through the root', 'leaves']
@@ -135,8 +135,8 @@ class Lock:
         return [Step(rows[2 * k], library.hmcs_kind_text(rows[2 * k]).decode(), rows[2 * k + 1]) for k in range(reply.rows)]
 
     def check_steps(self, threads: Sequence[int], kinds: Sequence[int], domains: Sequence[int]) -> None:
-        """Nothing where the threads' steps from here have these kinds and domains, and then the lock stands after them; else hmcs.Refused, the place being
-        the first wrong step, and the lock stands before it.
+        """Checks that the threads' steps from here have these kinds and domains; the lock is then after them. Otherwise raises hmcs.Refused; the place is
+        the first wrong step, and the lock is before it.
 
         >>> lock = Lock(Tree.parse("(#1)"))
         >>> lock.check_steps([0, 0], [1, 2], [0, 0])
@@ -148,7 +148,7 @@ class Lock:
         accepted(reply.number, reply.place)
 
     def run_waits(self, schedule: Sequence[int]) -> WaitsRun:
-        """A run, and the waits of the attempts that ended in it. Attempts go on from one such run to the next.
+        """A run, and the waits of the attempts that ended in it. Attempts continue from one such run to the next.
 
         >>> lock = Lock(Tree.parse("(#2)"))
         >>> waits = lock.run_waits([0, 0, 1, 1, 1, 0, 0, 0, 1, 1, 1])
@@ -174,7 +174,7 @@ class Lock:
         return list(chain)[: length.value]
 
     def tenures(self, domain: int) -> Tenures:
-        """What has been counted for a domain other than the root."""
+        """The counters of a domain other than the root."""
         if not 0 < domain < min(self.tree.domains, DOMAINS):
             return Tenures(0, 0, 0)
         return Tenures(self.state.entries[domain], self.state.tenures[domain], self.state.longest[domain])

@@ -1,4 +1,4 @@
-"""Tables of the command: each row is a dict, as pandas.DataFrame takes them."""
+"""Tables of the command: each row is a dict, as pandas.DataFrame accepts them."""
 
 import html
 import json
@@ -12,7 +12,7 @@ Row = Dict[str, Any]
 
 
 class Rows(List[Row]):
-    """Rows of a table, shown as one in a notebook; `said` is what the command wrote on standard error."""
+    """Rows of a table, shown as one in a notebook; `said` is what the command wrote to standard error."""
 
     said: str = ""
 
@@ -24,7 +24,7 @@ class Rows(List[Row]):
 
     @staticmethod
     def _line(row: Row) -> str:
-        # a row that must not be compared is told apart, as the command's page does
+        # a row that must not be compared is marked, as on the command's page
         style = ' style="background:repeating-linear-gradient(45deg,#8883 0 4px,transparent 4px 8px)"' if row.get("comparable") is False else ""
         return "<tr%s>%s</tr>" % (style, "".join("<td>%s</td>" % html.escape("" if value is None else str(value)) for value in row.values()))
 

@@ -1,4 +1,4 @@
-"""Trees of domains with their threads, and the numbers that follow from a tree alone."""
+"""Trees of domains with their threads, and the numbers that depend only on a tree."""
 
 import ctypes
 import html
@@ -8,12 +8,12 @@ from typing import List, NamedTuple, Optional
 from ._library import DOMAINS, THREADS, PassingTimes, TreeWords, command, library
 from ._refusals import accepted
 
-# The largest number of 64 bits, which stands for every larger one.
+# The largest 64-bit number, which stands for every larger one.
 MOST = 2**64 - 1
 
 
 class Rounds(NamedTuple):
-    """Rounds within which every thread enters, and their turns by round robin."""
+    """Rounds within which every thread enters, and their turns with round robin."""
 
     rounds: int
     turns: int
@@ -55,14 +55,14 @@ class Tree:
 
     @classmethod
     def of(cls, words: TreeWords) -> "Tree":
-        """The tree that has these words; the calls refuse what is no tree."""
+        """The tree with these fields; the calls refuse what is not a tree."""
         tree = cls()
         tree.words = TreeWords.from_buffer_copy(words)
         return tree
 
     @classmethod
     def machine(cls, *words: str, root: str = "queue") -> "Tree":
-        """The tree of this computer, as `hmcs machine` gives it; words are those of the command, as "--smt"."""
+        """The tree of this computer, as `hmcs machine` prints it; the words are options of the command, such as "--smt"."""
         printed = subprocess.run([command(), "machine", *words], stdout=subprocess.PIPE, stderr=subprocess.PIPE, text=True)
         if printed.returncode != 0:
             raise ValueError(printed.stderr.strip())
@@ -89,17 +89,17 @@ class Tree:
 
     @property
     def root(self) -> str:
-        """What stands at the root: "queue" or "ticket"."""
+        """The lock at the root: "queue" or "ticket"."""
         return "ticket" if self.words.ticket_root else "queue"
 
     @property
     def domains(self) -> int:
-        """How many domains there are, the root among them."""
+        """The number of domains, including the root."""
         return int(self.words.domains)
 
     @property
     def threads(self) -> int:
-        """How many threads there are."""
+        """The number of threads."""
         return int(self.words.threads)
 
     @property
@@ -118,21 +118,21 @@ class Tree:
         return list(self.words.homes)[: min(self.threads, THREADS)]
 
     def wait_bounds(self) -> List[int]:
-        """Of each thread, for how many entries of others an attempt waits at most as long as nobody stalls: proved for every schedule."""
+        """For each thread, the largest number of entries of others that an attempt waits for as long as nobody stalls: proved for every schedule."""
         bounds = (ctypes.c_uint64 * THREADS)()
         answer = library.hmcs_wait_bounds(self.words, bounds)
         accepted(answer.number, answer.place)
         return list(bounds)[: self.threads]
 
     def allowances(self) -> List[int]:
-        """Of each domain, how often its threads enter at most while another member of its parent waits; 0 for the root."""
+        """For each domain, how often its threads may enter while another member of its parent waits; 0 for the root."""
         allowed = (ctypes.c_uint64 * DOMAINS)()
         answer = library.hmcs_allowances(self.words, allowed)
         accepted(answer.number, answer.place)
         return list(allowed)[: self.domains]
 
     def rounds(self) -> Rounds:
-        """Within how many rounds every thread enters, a round being a stretch of turns in which every thread has one."""
+        """The number of rounds within which every thread enters. In a round every thread has a turn."""
         reply = library.hmcs_rounds(self.words)
         accepted(reply.number, reply.place)
         return Rounds(reply.rounds, reply.turns)

@@ -1,4 +1,4 @@
-//! The step table's file call and check of a journal, and the reference's reader of texts, under the C form of the library's, for the fuzzer.
+//! The step table's file call and journal check, and the reference's text reader, with the library's C signatures, for the fuzzer.
 
 use std::slice;
 

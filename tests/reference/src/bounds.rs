@@ -1,19 +1,19 @@
-//! The calls of allowances, which are document 01's, of the rounds in which every thread enters and of the longest waits, each number cut at the largest of 64 bits.
+//! The calls for allowances (document 01), for the rounds within which every thread enters, and for the longest waits. Each number is capped at the largest 64-bit number.
 
 use crate::refusals::accept_tree;
 use crate::standing::allowance;
 use crate::table::*;
 use crate::words::TreeWords;
 
-/// The form of the call, the reference's and the library's: number and place.
+/// The signature of the call, for the reference and the library. Returns number and place.
 pub type Allowances = fn(&TreeWords, &mut [u64; DOMAIN_ROOM]) -> (u32, u32);
 
-/// The allowance of a domain, or the largest number of 64 bits where it is larger.
+/// The allowance of a domain, or the largest 64-bit number if it is larger.
 pub fn capped_allowance(tree: &Tree, domain: usize) -> u64 {
     allowance(tree, domain_record(domain)).min(u64::MAX as u128) as u64
 }
 
-/// 0 for the root and after the domains; a refused call leaves the buffer as it came.
+/// The root and the slots after the last domain are 0. A refused call leaves the buffer unchanged.
 pub fn allowances(words: &TreeWords, buffer: &mut [u64; DOMAIN_ROOM]) -> (u32, u32) {
     let tree = words.tree();
     if let Err(refusal) = accept_tree(&tree) {
@@ -23,7 +23,7 @@ pub fn allowances(words: &TreeWords, buffer: &mut [u64; DOMAIN_ROOM]) -> (u32, u
     (0, 0)
 }
 
-/// Number and place, rounds and turns; refused, rounds and turns are 0.
+/// Number and place, rounds and turns. If the call is refused, rounds and turns are 0.
 #[repr(C)]
 #[derive(Clone, Copy, Debug, PartialEq, Eq)]
 pub struct RoundsReply {
@@ -33,7 +33,7 @@ pub struct RoundsReply {
     pub turns: u64,
 }
 
-/// The form of the call, the reference's and the library's.
+/// The signature of the call, for the reference and the library.
 pub type Rounds = fn(&TreeWords) -> RoundsReply;
 
 /// The root is at level 1.
@@ -45,13 +45,13 @@ fn level(tree: &Tree, domain: usize) -> u128 {
     }
 }
 
-/// The members of a domain: child domains, and threads that are at home there.
+/// The members of a domain: its child domains, and the threads whose home it is.
 fn members(tree: &Tree, domain: usize) -> Vec<usize> {
     let children = (1..tree.domains).filter(|&child| tree.parent(child) == domain).map(domain_record);
     (0..tree.threads).filter(|&thread| tree.home(thread) == domain).chain(children).collect()
 }
 
-/// How many members of a domain may have the lock one after the other while the domains above are kept: at the root, and where there is nobody to pass to, one.
+/// How many members of a domain may have the lock one after another while the domains above are kept. It is one at the root, and if there is nobody to pass to.
 fn tenure_length(tree: &Tree, domain: usize, members: usize) -> u128 {
     if domain == ROOT || members < 2 {
         1
@@ -60,7 +60,7 @@ fn tenure_length(tree: &Tree, domain: usize, members: usize) -> u128 {
     }
 }
 
-/// The rounds of a member from its domain on to the entry: three to come there; where the lock is passed on, one in which those before it link; the domains above acquired once for each tenure that the members need, which at the root takes one round, and released once for each that the others need, in five rounds for each level; and for every entry of the others two rounds and one more for each level of the tree.
+/// The rounds that a member needs from its domain up to the entry. Arriving takes three. If the lock is passed on, one more lets the members before it link. The domains above are acquired once for each tenure that the members need, which takes one round at the root. They are released once for each tenure that the others need, in five rounds for each level. Every entry of the others takes two rounds, and one more for each level of the tree.
 fn acquire(tree: &Tree, domain: usize, member: usize) -> u128 {
     let above = if domain == ROOT { 1 } else { acquire(tree, tree.parent(domain), domain_record(domain)) };
     let levels = (0..tree.domains).map(|domain| level(tree, domain)).max().unwrap_or(0);
@@ -74,7 +74,7 @@ fn acquire(tree: &Tree, domain: usize, member: usize) -> u128 {
         .saturating_add((2 + levels).saturating_mul(entries))
 }
 
-/// A thread enters within the rounds of an acquisition and those of the release before it, six for each level; by round robin a round is one turn of each thread.
+/// A thread enters within the rounds of an acquisition and of the release before it, which takes six for each level. In round robin, a round is one turn of each thread.
 pub fn rounds(words: &TreeWords) -> RoundsReply {
     let tree = words.tree();
     if let Err(refusal) = accept_tree(&tree) {
@@ -86,7 +86,7 @@ pub fn rounds(words: &TreeWords) -> RoundsReply {
     RoundsReply { number: 0, place: 0, rounds: capped(everyone), turns: capped(everyone.saturating_mul(tree.threads as u128)) }
 }
 
-/// The form of the call, the reference's and the library's: number and place.
+/// The signature of the call, for the reference and the library. Returns number and place.
 pub type WaitBounds = fn(&TreeWords, &mut [u64; THREAD_ROOM]) -> (u32, u32);
 
 /// How many entries of threads under a member may be in line while another member of its domain waits once.
@@ -100,7 +100,7 @@ fn passes(tree: &Tree, member: usize) -> u128 {
     threshold.saturating_mul(inner.iter().map(|&one| passes(tree, one)).max().unwrap_or(0))
 }
 
-/// The longest wait of a member of a domain: the passes of the others there, and the wait of the domain itself once for each tenure that its members need.
+/// The longest wait of a member of a domain: the passes of the other members, and the wait of the domain itself once for each tenure that its members need.
 fn longest_wait(tree: &Tree, domain: usize, member: usize) -> u128 {
     let all = members(tree, domain);
     let others = all.iter().filter(|&&other| other != member).fold(0u128, |sum, &other| sum.saturating_add(passes(tree, other)));
@@ -111,7 +111,7 @@ fn longest_wait(tree: &Tree, domain: usize, member: usize) -> u128 {
     others.saturating_add(tenures.saturating_mul(longest_wait(tree, tree.parent(domain), domain_record(domain))))
 }
 
-/// 0 after the last thread; a refused call leaves the buffer as it came.
+/// The slots after the last thread are 0. A refused call leaves the buffer unchanged.
 pub fn wait_bounds(words: &TreeWords, buffer: &mut [u64; THREAD_ROOM]) -> (u32, u32) {
     let tree = words.tree();
     if let Err(refusal) = accept_tree(&tree) {

@@ -1,4 +1,4 @@
-//! The fresh call, the single step, the step in place, the run and the check of a state on words, by the step table.
+//! The calls on words, by the step table: the fresh call, the single step, the step in place, the run and the check of a state.
 
 use crate::kinds::{check_state, run_kinds, CheckState, RunKinds};
 use crate::named_steps::{check_steps, CheckSteps};
@@ -28,7 +28,7 @@ fn number_and_place<T>(outcome: &Outcome<T>) -> (u32, u32) {
     }
 }
 
-/// Words that name no state are refused by 10, once the tree is accepted.
+/// Words that are not a state are refused by 10, once the tree is accepted.
 pub fn read_state(tree: &Tree, words: &StateWords) -> Outcome<State> {
     accept_tree(tree)?;
     match words.state() {
@@ -43,7 +43,7 @@ fn fresh(tree: &TreeWords, start: u16) -> Reply {
     Reply { number, place, state: StateWords::of(&state) }
 }
 
-/// The fresh words are written where the tree is accepted; a refused call leaves the words as they came.
+/// Writes the fresh words if the tree is accepted. A refused call leaves the words unchanged.
 fn fresh_in_place(tree: &TreeWords, words: &mut StateWords, start: u16) -> (u32, u32) {
     let reply = fresh(tree, start);
     if reply.number == 0 {
@@ -52,7 +52,7 @@ fn fresh_in_place(tree: &TreeWords, words: &mut StateWords, start: u16) -> (u32,
     (reply.number, reply.place)
 }
 
-/// A refused step leaves the words as they came and tells kind 0 and domain 0.
+/// A refused step leaves the words unchanged and returns kind 0 and domain 0.
 fn step_in_place(tree: &TreeWords, words: &mut StateWords, thread: u16) -> StepAnswer {
     let tree = tree.tree();
     let outcome = read_state(&tree, words).and_then(|mut state| {
@@ -81,7 +81,7 @@ fn run_words(tree: &TreeWords, words: &StateWords, schedule: &[u16], trace: &mut
     run_reply(outcome, words)
 }
 
-/// What a run returns; refused, zero counts and the words as they came.
+/// What a run returns. If the run is refused, the counts are zero and the words unchanged.
 pub fn run_reply(outcome: Outcome<(Counts, StateWords)>, words: &StateWords) -> RunReply {
     let (number, place) = number_and_place(&outcome);
     let (counts, state) = outcome.unwrap_or((Counts::default(), *words));

@@ -1,4 +1,4 @@
-//! The chain of threads that a thread waits for, written from document 02, request (x), and its sentence in (xii).
+//! The chain of threads that a thread waits for, written from document 02, request (x), and from what (xii) says of it.
 
 use crate::refusals::*;
 use crate::table::*;
@@ -7,7 +7,7 @@ use crate::words::{StateWords, TreeWords};
 /// Number, place and length.
 pub type ChainAnswer = (u32, u32, u32);
 
-/// The form of the call, the step table's and the library's.
+/// The signature of the call, for the step table and the library.
 pub type ChainCall = fn(&TreeWords, &StateWords, u16, &mut [u16]) -> ChainAnswer;
 
 /// Why a chain breaks off.
@@ -22,17 +22,17 @@ pub fn is_on_path(tree: &Tree, thread: usize, domain: usize) -> bool {
     path(tree, thread).any(|above| above == domain)
 }
 
-/// Home and all above it.
+/// The home and all domains above it.
 fn path(tree: &Tree, thread: usize) -> impl Iterator<Item = usize> + '_ {
     std::iter::successors(Some(tree.home(thread)), |&domain| (domain != ROOT).then(|| tree.parent(domain)))
 }
 
-/// The domain of the thread's place is this one, or higher on its path; both are on the path.
+/// Whether the thread's place is at this domain or at a higher one. Both domains are on the thread's path.
 fn there_or_higher(tree: &Tree, thread: usize, place: usize, domain: usize) -> bool {
     path(tree, thread).skip_while(|&above| above != domain).any(|above| above == place)
 }
 
-/// Document 01's acting, at a domain on the thread's path; watching and raising at a ticket root are acting there.
+/// Acting as document 01 defines it, at a domain on the thread's path. Watching and raising at a ticket root are acting there.
 pub fn acts(tree: &Tree, state: &State, thread: usize, domain: usize) -> bool {
     if !is_on_path(tree, thread, domain) {
         return false;
@@ -57,8 +57,8 @@ fn sends_inside(domain: usize, status: u64) -> bool {
     }
 }
 
-/// Who is looked to, as lists that are made once for a state: by record, the threads that act for a record whose next names it, and those in Link with it; by ticket, the
-/// threads that act at the root for a record that has it.
+/// Which threads a thread waits for, as lists made once for each state. By record: the threads that act for a record whose next is this record, and those in Link with it.
+/// By ticket: the threads that act at the root for a record that has the ticket.
 struct Looked<'a> {
     tree: &'a Tree,
     state: &'a State,
@@ -92,7 +92,7 @@ impl<'a> Looked<'a> {
         }
     }
 
-    /// The threads that a thread whose next step is a stay looks to, in order.
+    /// The threads that this thread waits for, in order. Its next step is a stay.
     fn by(&self, thread: usize) -> Vec<u16> {
         let own = |domain: u8| self.tree.record(thread, domain as usize);
         match self.state.places[thread] {
@@ -107,7 +107,7 @@ impl<'a> Looked<'a> {
     }
 }
 
-/// The chain of a thread, itself first, or why there is none. A stay changes nothing, so the next steps of all its threads can be tried on one copy of the state.
+/// The chain of a thread, starting with the thread itself, or why there is none. A stay changes nothing, so the next steps of all its threads can be tried on one copy of the state.
 pub fn chain(tree: &Tree, state: &State, thread: u16) -> Result<Vec<u16>, Broken> {
     let looked = Looked::new(tree, state);
     let mut tried = state.clone();
@@ -133,7 +133,7 @@ fn accept_chain(tree: &Tree, words: &StateWords, thread: u16, room: usize) -> Ou
     chain(tree, &state, thread).map_err(|_| Refusal { number: 21, place: 0 })
 }
 
-/// The chain at the front of the buffer; a refused call leaves the buffer as it came.
+/// Writes the chain at the front of the buffer. A refused call leaves the buffer unchanged.
 pub fn chain_words(tree: &TreeWords, state: &StateWords, thread: u16, buffer: &mut [u16]) -> ChainAnswer {
     match accept_chain(&tree.tree(), state, thread, buffer.len()) {
         Ok(chain) => {

@@ -1,8 +1,8 @@
-//! Document 02, (vii): of every domain but the root its threads' entries, its tenures and its longest tenure. No step reads them.
+//! Document 02, (vii): for every domain except the root, its threads' entries, its tenures and its longest tenure. No step reads them.
 
 use crate::table::*;
 
-/// The most that a counter may be.
+/// The largest value of a counter.
 pub const MOST_COUNTED: u64 = 1 << 63;
 
 #[repr(C)]
@@ -16,7 +16,7 @@ pub struct Counters {
 impl Counters {
     pub const ZERO: Counters = Counters { entries: [0; DOMAIN_ROOM], tenures: [0; DOMAIN_ROOM], longest: [0; DOMAIN_ROOM] };
 
-    /// An entry counts in every domain of the thread's path but the root.
+    /// An entry counts in every domain of the thread's path except the root.
     #[inline]
     pub fn enter(&mut self, tree: &Tree, thread: usize) {
         let mut domain = tree.home(thread);
@@ -26,7 +26,7 @@ impl Counters {
         }
     }
 
-    /// A member's record is given the lock of its domain: where the member is a domain, a tenure of it starts, of length 1.
+    /// A member's record is given the lock of its domain. If the member is a domain, a tenure of it starts, with length 1.
     #[inline]
     pub fn give(&mut self, record: usize) {
         if record > domain_record(ROOT) {
@@ -36,13 +36,13 @@ impl Counters {
         }
     }
 
-    /// The longest takes in the running tenure at once.
+    /// The longest tenure includes the running one at once.
     #[inline]
     pub fn lengthen(&mut self, domain: usize, length: u64) {
         self.longest[domain] = self.longest[domain].max(length);
     }
 
-    /// The three of a domain.
+    /// The three counters of a domain.
     pub fn of(&self, domain: usize) -> [u64; 3] {
         [self.entries[domain], self.tenures[domain], self.longest[domain]]
     }
@@ -52,7 +52,7 @@ impl Counters {
     }
 }
 
-/// Starts a tenure of each child of the root whose ticket the grant now is and a thread of which watches.
+/// Starts a tenure of each child of the root that has the new grant as its ticket and has a thread that watches.
 pub fn show(tree: &Tree, state: &mut State) {
     for child in 1..tree.domains {
         let record = domain_record(child);
@@ -66,7 +66,7 @@ fn is_watched(tree: &Tree, state: &State, record: usize) -> bool {
     (0..tree.threads).any(|thread| state.places[thread] == Place::Watch && tree.record(thread, ROOT) == record)
 }
 
-/// The first position of the schedule whose step would push a counter past 2^63, looked for by taking the steps on a copy.
+/// The first position of the schedule whose step would push a counter past 2^63, found by taking the steps on a copy.
 pub fn first_past_by_steps(tree: &Tree, state: &State, schedule: &[u16]) -> Option<usize> {
     let mut tried = state.clone();
     schedule.iter().position(|&thread| {
@@ -75,7 +75,7 @@ pub fn first_past_by_steps(tree: &Tree, state: &State, schedule: &[u16]) -> Opti
     })
 }
 
-/// The same; a step adds at most 1 to entries and tenures, and a longest tenure is at most its threshold, so that no step need be taken where there is room for all of the schedule.
+/// The same, but takes no step if every counter is below 2^63 by at least the schedule's length. A step adds at most 1 to entries and tenures, and a longest tenure is at most its threshold.
 pub fn first_past(tree: &Tree, state: &State, schedule: &[u16]) -> Option<usize> {
     let largest = state.counters.all().max().unwrap_or(0);
     if largest + schedule.len() as u64 <= MOST_COUNTED {

@@ -1,14 +1,14 @@
-//! Drafts of lock files: what a file says before it is written as bytes, also where it breaks a limit.
+//! Drafts of lock files: the contents of a file before it is written as bytes, even if it breaks a limit.
 
 use crate::lock_file::*;
 use crate::random::Random;
 use crate::refusals::{leaves, occupied};
 use crate::table::*;
 
-/// The most domains that a file can name: its first byte says the kind of root too.
+/// The most domains that a file can name. Its first byte also holds the kind of root.
 pub const MOST_DOMAINS: usize = TICKET_ROOT_BIT as usize - 1;
 
-/// The first domain is the root, whose parent and threshold no file holds.
+/// The first domain is the root. No file holds its parent or threshold.
 #[derive(Clone, Debug)]
 pub struct Draft {
     pub domains: u8,
@@ -28,7 +28,7 @@ pub struct Size {
 }
 
 impl Draft {
-    /// The tree of a draft whose numbers fit the room.
+    /// The tree of a draft whose numbers fit the arrays.
     pub fn tree(&self) -> Tree {
         let mut tree = Tree::new();
         tree.domains = self.parents.len();
@@ -40,7 +40,7 @@ impl Draft {
         tree
     }
 
-    /// The file; a field that says what its absence means is set at times and left out at times.
+    /// Writes the file. A field with its default value is sometimes written and sometimes left out.
     pub fn write(&self, random: &mut Random) -> Vec<u8> {
         let mut file = vec![self.domains | (self.ticket_root as u8 * TICKET_ROOT_BIT)];
         for domain in 1..self.parents.len() {
@@ -77,7 +77,7 @@ fn write_home(file: &mut Vec<u8>, before: u8, home: u8, random: &mut Random) {
     }
 }
 
-/// A random tree that is accepted, its root of either kind, with an empty schedule.
+/// A random tree that is accepted, with either kind of root and an empty schedule.
 pub fn random_draft(random: &mut Random, size: Size) -> Draft {
     let domains = random.between(1, size.domains);
     let parents = random_parents(random, domains);
@@ -90,7 +90,7 @@ pub fn random_draft(random: &mut Random, size: Size) -> Draft {
     draft
 }
 
-/// Domains that no thread is under go, so that 16 refuses nothing; the others keep their order.
+/// Removes domains without a thread under them, so that 16 does not refuse the tree. The others keep their order.
 fn leave_out_empty_domains(draft: &mut Draft) {
     let occupied = occupied(&draft.tree());
     let kept: Vec<usize> = (0..draft.parents.len()).filter(|&domain| occupied[domain]).collect();
@@ -101,7 +101,7 @@ fn leave_out_empty_domains(draft: &mut Draft) {
     draft.domains = kept.len() as u8;
 }
 
-/// Parents by one of three habits: the domain just before, one of the last few, or any; never so deep that 7 would refuse.
+/// Chooses parents in one of three ways: the domain just before, one of the last few, or any. The tree is never so deep that 7 would refuse it.
 fn random_parents(random: &mut Random, domains: usize) -> Vec<u8> {
     let reach = random.pick(&[1, 3, DOMAIN_ROOM]);
     let (mut parents, mut levels) = (vec![0], vec![1]);
@@ -126,7 +126,7 @@ fn random_thresholds(random: &mut Random, domains: usize) -> Vec<u16> {
         .collect()
 }
 
-/// Homes among all leaves, or crowded in a few of them.
+/// Homes spread over all leaves, or crowded in a few of them.
 fn random_homes(random: &mut Random, tree: &Tree, threads: usize) -> Vec<u8> {
     let leaves = leaves(tree);
     let all: Vec<u8> = (0..tree.domains).filter(|&domain| leaves[domain]).map(|domain| domain as u8).collect();

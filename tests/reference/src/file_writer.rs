@@ -5,10 +5,10 @@ use crate::refusals::*;
 use crate::table::*;
 use crate::words::TreeWords;
 
-/// The form of the call, the reference's and the library's: number, place and length.
+/// The signature of the call, for the reference and the library. Returns number, place and length.
 pub type WriteFile = fn(&TreeWords, &[u16], &mut [u8]) -> FileAnswer;
 
-/// A bit map, and after it each field whose value is not what its absence means.
+/// Writes a bit map, and after it each field that does not have its default value.
 fn push_entry(file: &mut Vec<u8>, fields: &[(u8, Option<Vec<u8>>)]) {
     file.push(fields.iter().filter(|(_, field)| field.is_some()).map(|(bit, _)| bit).sum());
     file.extend(fields.iter().filter_map(|(_, field)| field.clone()).flatten());
@@ -45,7 +45,7 @@ fn fill(words: &TreeWords, schedule: &[u16], buffer: &mut [u8]) -> Outcome<u32> 
     Ok(file.len() as u32)
 }
 
-/// The file at the front of the buffer; a refused call leaves the buffer as it came.
+/// Writes the file at the front of the buffer. A refused call leaves the buffer unchanged.
 pub fn write_file(words: &TreeWords, schedule: &[u16], buffer: &mut [u8]) -> FileAnswer {
     match fill(words, schedule, buffer) {
         Ok(length) => FileAnswer { number: 0, place: 0, length },
@@ -53,7 +53,7 @@ pub fn write_file(words: &TreeWords, schedule: &[u16], buffer: &mut [u8]) -> Fil
     }
 }
 
-/// An accepted file, read, written again by a writer, and read again: what is wrong with what it comes to, if anything is.
+/// Reads an accepted file, writes it again with a writer, and reads it again. Returns what is wrong with the result, if anything.
 pub fn wrong_when_written_again(writer: WriteFile, file: &[u8]) -> Option<&'static str> {
     let (tree, schedule) = read(file).ok()?;
     let (words, schedule) = (TreeWords::of(&tree), entries(schedule).collect::<Vec<u16>>());

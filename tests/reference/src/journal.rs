@@ -12,10 +12,10 @@ pub struct JournalAnswer {
     pub place: usize,
 }
 
-/// The form of the call, the step table's and the library's.
+/// The signature of the call, for the step table and the library.
 pub type CheckJournal = fn(&TreeWords, &[u8]) -> JournalAnswer;
 
-/// Thread and kind of the first entry, and the bytes after it; none where it is cut off or has another bit set.
+/// Thread and kind of the first entry, and the bytes after it. None if the entry is cut off or has another bit set.
 fn first_entry(bytes: &[u8], before: u16) -> Option<(u16, u8, &[u8])> {
     let (&map, mut rest) = bytes.split_first()?;
     if map & !3 != 0 {
@@ -34,7 +34,7 @@ fn first_entry(bytes: &[u8], before: u16) -> Option<(u16, u8, &[u8])> {
     Some((thread, kind, rest))
 }
 
-/// Entry by entry: 25, then 12, then 26, the place being where the entry begins.
+/// Checks each entry for 25, then 12, then 26. The place is the position at which the entry begins.
 fn check_entries(tree: &Tree, journal: &[u8]) -> JournalAnswer {
     let mut state = State::fresh();
     let mut rest = journal;
@@ -64,7 +64,7 @@ pub fn check_journal(words: &TreeWords, journal: &[u8]) -> JournalAnswer {
     }
 }
 
-/// An entry at the journal's end, its fields written out where they must be and where the caller wants them.
+/// Appends an entry to the journal. A field is written if it must be or if the caller wants it.
 pub fn write_entry(journal: &mut Vec<u8>, before: u16, (thread, kind): (u16, u8), (thread_too, kind_too): (bool, bool)) {
     let map = u8::from(thread_too || thread != before) | u8::from(kind_too || kind != 0) << 1;
     journal.push(map);
@@ -76,7 +76,7 @@ pub fn write_entry(journal: &mut Vec<u8>, before: u16, (thread, kind): (u16, u8)
     }
 }
 
-/// The journal of a schedule's steps from a fresh lock, with fields written out that need not be in one of so many entries, or in none; and where each entry begins.
+/// The journal of a schedule's steps from a fresh lock, and the position at which each entry begins. A field that could be left out is written one time in `one_in`, or never.
 pub fn write_journal(tree: &Tree, schedule: &[u16], random: &mut Random, one_in: Option<usize>) -> (Vec<u8>, Vec<usize>) {
     let mut state = State::fresh();
     let (mut journal, mut begins) = (Vec::new(), Vec::new());

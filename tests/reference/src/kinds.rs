@@ -1,11 +1,11 @@
-//! A run that tells kind and domain of each step, by the step table, and the check of a state that was kept.
+//! A run that reports the kind and domain of each step, by the step table, and the check of a saved state.
 
 use crate::calls::{read_state, run_reply};
 use crate::refusals::{accept_before_counters, accept_counters, accept_kept, refuse_if};
 use crate::table::*;
 use crate::words::*;
 
-/// Numbers of a row: a step's kind and its domain.
+/// Numbers in a row: a step's kind and its domain.
 pub const ROW: usize = 2;
 
 #[repr(C)]
@@ -37,7 +37,7 @@ impl KindsReply {
 
 pub type RunKinds = fn(&TreeWords, &StateWords, &[u16], &mut [u16], &mut [u16]) -> KindsReply;
 
-/// Takes the steps, and writes of each what it was.
+/// Takes the steps and writes the kind and domain of each.
 fn take(tree: &Tree, state: &mut State, schedule: &[u16], trace: &mut [u16], rows: &mut [u16]) -> Counts {
     let mut counts = Counts::default();
     for (&thread, row) in schedule.iter().zip(rows.chunks_exact_mut(ROW)) {
@@ -52,7 +52,7 @@ fn take(tree: &Tree, state: &mut State, schedule: &[u16], trace: &mut [u16], row
     counts
 }
 
-/// A refused call leaves state, trace and rows as they came.
+/// A refused call leaves state, trace and rows unchanged.
 pub fn run_kinds(words: &TreeWords, state: &StateWords, schedule: &[u16], trace: &mut [u16], rows: &mut [u16]) -> KindsReply {
     let tree = words.tree();
     let outcome = read_state(&tree, state).and_then(|mut taken| {
@@ -68,7 +68,7 @@ pub fn run_kinds(words: &TreeWords, state: &StateWords, schedule: &[u16], trace:
 
 pub type CheckState = fn(&TreeWords, &StateWords) -> (u32, u32);
 
-/// 4 to 9 and 16 for the tree, then 10 for the state.
+/// Refuses the tree by 4 to 9 and 16, then the state by 10.
 pub fn check_state(words: &TreeWords, state: &StateWords) -> (u32, u32) {
     let tree = words.tree();
     match read_state(&tree, state).and_then(|state| accept_kept(&tree, &state)) {

@@ -1,4 +1,4 @@
-//! Programs of the hierarchical MCS lock that share no code with the crates, and what compares them.
+//! Programs of the hierarchical MCS lock that share no code with the crates, and programs that compare them.
 
 pub mod bounds;
 pub mod calls;

@@ -1,4 +1,4 @@
-//! The entries of the static library; no other Rust file declares one, and nothing checks the declarations but the comparison.
+//! The entry points of the static library. No other Rust file declares one, and only the comparisons check the declarations.
 
 use crate::bounds::{Allowances, Rounds, WaitBounds};
 use crate::calls::Calls;
@@ -11,7 +11,7 @@ use crate::rate::RateCall;
 use crate::text_tree::TextAnswer;
 use crate::waits::{RunWaits, RunWaitsOn};
 
-/// The form of the file call, the step table's and the library's.
+/// The signature of the file call, for the step table and the library.
 pub type RunFile = fn(&[u8], &mut [u8]) -> FileAnswer;
 
 #[cfg(library)]
@@ -22,7 +22,7 @@ mod entries {
         fn hmcs_run_file(file: *const u8, file_len: usize, output: *mut u8, output_len: usize, place: *mut u32, length: *mut u32) -> u32;
     }
 
-    /// Place and length hold other words before the call, so that words left unwritten show.
+    /// Place and length hold other words before the call, so a missing write is noticed.
     pub fn run_file(file: &[u8], output: &mut [u8]) -> FileAnswer {
         let (mut place, mut length) = (0x5A5A_5A5A, 0xA5A5_A5A5);
         // The pointers are valid for their lengths, and nothing else uses what they point to during the call.
@@ -42,14 +42,14 @@ pub fn run_file() -> Option<RunFile> {
     None
 }
 
-/// The calls on a caller's tree and state; built only where HMCS_CALLS says that the library has them.
+/// The calls on a caller's tree and state, built only if HMCS_CALLS says that the library has them.
 #[cfg(calls)]
 mod call_entries {
     use crate::kinds::KindsReply;
     use crate::named_steps::StepsReply;
     use crate::words::*;
 
-    /// Number and place alone.
+    /// Only number and place.
     #[repr(C)]
     struct Answer {
         number: u32,
@@ -125,7 +125,7 @@ pub fn calls() -> Option<Calls> {
     None
 }
 
-/// The rate, built where the calls on a caller's tree are.
+/// The rate, built if the calls on a caller's tree are.
 #[cfg(calls)]
 mod rate_entry {
     use crate::rate::{PassingTimes, RateReply};
@@ -150,7 +150,7 @@ pub fn rate() -> Option<RateCall> {
     None
 }
 
-/// The form of reading a text, the reference's and the library's.
+/// The signature of the text reader, for the reference and the library.
 pub type ReadText = fn(&[u8]) -> TextAnswer;
 
 #[cfg(library)]
@@ -167,7 +167,7 @@ mod text_entry {
     }
 }
 
-/// The library's reader of texts, if the program was built with the library.
+/// The library's text reader, if the program was built with the library.
 #[cfg(library)]
 pub fn read_text() -> Option<ReadText> {
     Some(text_entry::read_text)
@@ -178,7 +178,7 @@ pub fn read_text() -> Option<ReadText> {
     None
 }
 
-/// Many schedules in one call, built where the calls on a caller's tree are.
+/// Many schedules in one call, built if the calls on a caller's tree are.
 #[cfg(calls)]
 mod many_entry {
     use crate::words::TreeWords;
@@ -201,7 +201,7 @@ mod many_entry {
     }
 }
 
-/// The library's call of many schedules, if the program was built with the calls.
+/// The library's call for many schedules, if the program was built with the calls.
 #[cfg(calls)]
 pub fn run_many() -> Option<RunMany> {
     Some(many_entry::run_many)
@@ -212,7 +212,7 @@ pub fn run_many() -> Option<RunMany> {
     None
 }
 
-/// The chain of a thread, built where the calls on a caller's tree are.
+/// The chain of a thread, built if the calls on a caller's tree are.
 #[cfg(calls)]
 mod chain_entry {
     use crate::chain::ChainAnswer;
@@ -222,7 +222,7 @@ mod chain_entry {
         fn hmcs_chain(tree: TreeWords, state: StateWords, thread: u16, chain: *mut u16, chain_len: usize, place: *mut u32, length: *mut u32) -> u32;
     }
 
-    /// Place and length hold other words before the call, so that words left unwritten show.
+    /// Place and length hold other words before the call, so a missing write is noticed.
     pub fn chain(tree: &TreeWords, state: &StateWords, thread: u16, buffer: &mut [u16]) -> ChainAnswer {
         let (mut place, mut length) = (0x5A5A_5A5A, 0xA5A5_A5A5);
         // The pointers are valid for their lengths, and nothing else uses what they point to during the call.
@@ -242,7 +242,7 @@ pub fn chain() -> Option<ChainCall> {
     None
 }
 
-/// Writing a lock file, built where the calls on a caller's tree are.
+/// Writing a lock file, built if the calls on a caller's tree are.
 #[cfg(calls)]
 mod write_entry {
     use crate::lock_file::FileAnswer;
@@ -252,7 +252,7 @@ mod write_entry {
         fn hmcs_write_file(tree: TreeWords, schedule: *const u16, schedule_len: usize, file: *mut u8, file_len: usize, place: *mut u32, length: *mut u32) -> u32;
     }
 
-    /// Place and length hold other words before the call, so that words left unwritten show.
+    /// Place and length hold other words before the call, so a missing write is noticed.
     pub fn write_file(tree: &TreeWords, schedule: &[u16], file: &mut [u8]) -> FileAnswer {
         let (mut place, mut length) = (0x5A5A_5A5A, 0xA5A5_A5A5);
         // The pointers are valid for their lengths, and nothing else uses what they point to during the call.
@@ -261,7 +261,7 @@ mod write_entry {
     }
 }
 
-/// The library's writer of lock files, if the program was built with the calls.
+/// The library's lock file writer, if the program was built with the calls.
 #[cfg(calls)]
 pub fn write_file() -> Option<WriteFile> {
     Some(write_entry::write_file)
@@ -272,7 +272,7 @@ pub fn write_file() -> Option<WriteFile> {
     None
 }
 
-/// The check of a journal, built where the calls on a caller's tree are.
+/// The check of a journal, built if the calls on a caller's tree are.
 #[cfg(calls)]
 mod journal_entry {
     use crate::journal::JournalAnswer;
@@ -299,7 +299,7 @@ pub fn check_journal() -> Option<CheckJournal> {
     None
 }
 
-/// A run with waits, and one that goes on, built where the calls on a caller's tree are.
+/// A run with waits, and a continued one, built if the calls on a caller's tree are.
 #[cfg(calls)]
 mod waits_entry {
     use crate::waits::{UnderWay, WaitsReply};
@@ -342,7 +342,7 @@ pub fn run_waits() -> Option<RunWaits> {
     None
 }
 
-/// The library's run with waits that goes on, if the program was built with the calls.
+/// The library's continued run with waits, if the program was built with the calls.
 #[cfg(calls)]
 pub fn run_waits_on() -> Option<RunWaitsOn> {
     Some(waits_entry::run_waits_on)
@@ -353,7 +353,7 @@ pub fn run_waits_on() -> Option<RunWaitsOn> {
     None
 }
 
-/// Reading a lock file without running it, built where the calls on a caller's tree are.
+/// Reading a lock file without running it, built if the calls on a caller's tree are.
 #[cfg(calls)]
 mod read_entry {
     use crate::lock_file::ReadReply;
@@ -368,7 +368,7 @@ mod read_entry {
     }
 }
 
-/// The library's reader of lock files, if the program was built with the calls.
+/// The library's lock file reader, if the program was built with the calls.
 #[cfg(calls)]
 pub fn read_file() -> Option<ReadFile> {
     Some(read_entry::read_file)
@@ -379,7 +379,7 @@ pub fn read_file() -> Option<ReadFile> {
     None
 }
 
-/// The allowances of a tree and the rounds in which every thread enters, built where the calls on a caller's tree are.
+/// The allowances of a tree and the rounds within which every thread enters, built if the calls on a caller's tree are.
 #[cfg(calls)]
 mod bounds_entry {
     use crate::bounds::RoundsReply;
@@ -399,13 +399,13 @@ mod bounds_entry {
     }
 
     pub fn wait_bounds(tree: &TreeWords, buffer: &mut [u64; THREAD_ROOM]) -> (u32, u32) {
-        // The buffer has room for all threads, and nothing else uses it during the call.
+        // The buffer has a slot for every thread, and nothing else uses it during the call.
         let answer = unsafe { hmcs_wait_bounds(*tree, buffer.as_mut_ptr()) };
         (answer.number, answer.place)
     }
 
     pub fn allowances(tree: &TreeWords, buffer: &mut [u64; DOMAIN_ROOM]) -> (u32, u32) {
-        // The buffer has room for all domains, and nothing else uses it during the call.
+        // The buffer has a slot for every domain, and nothing else uses it during the call.
         let answer = unsafe { hmcs_allowances(*tree, buffer.as_mut_ptr()) };
         (answer.number, answer.place)
     }
@@ -415,7 +415,7 @@ mod bounds_entry {
     }
 }
 
-/// The library's call of allowances, if the program was built with the calls.
+/// The library's call for allowances, if the program was built with the calls.
 #[cfg(calls)]
 pub fn allowances() -> Option<Allowances> {
     Some(bounds_entry::allowances)
@@ -426,7 +426,7 @@ pub fn allowances() -> Option<Allowances> {
     None
 }
 
-/// The library's call of rounds, if the program was built with the calls.
+/// The library's call for rounds, if the program was built with the calls.
 #[cfg(calls)]
 pub fn rounds() -> Option<Rounds> {
     Some(bounds_entry::rounds)
@@ -437,7 +437,7 @@ pub fn rounds() -> Option<Rounds> {
     None
 }
 
-/// The library's call of longest waits, if the program was built with the calls.
+/// The library's call for longest waits, if the program was built with the calls.
 #[cfg(calls)]
 pub fn wait_bounds() -> Option<WaitBounds> {
     Some(bounds_entry::wait_bounds)

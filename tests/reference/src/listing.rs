@@ -1,7 +1,7 @@
-//! Listing 1 of the paper on HMCS locks, run by threads that take turns; `// 7` behind code is the listing's line 7.
+//! Listing 1 of the paper on HMCS locks, run by threads that take turns; `// 7` after code is the listing's line 7.
 //! `before(7)` begins a schedule entry: the accesses up to the next `before` are one row of the step table.
-//! With a ticket root the second template, lines 63 to 89, is `ticket_lock` in its place; lines 1 to 62 and the recursion are the same code.
-//! The brace that ends line 11 has no partner and is left out: lines 16 and 17 also follow a swap that found no predecessor.
+//! At a ticket root, `ticket_lock` replaces the second template, lines 63 to 89. Lines 1 to 62 and the recursion are the same code.
+//! The brace that ends line 11 has no partner and is left out, so lines 16 and 17 also follow a swap that found no predecessor.
 
 use crate::ticket_lock::TicketLock;
 use crate::turnstile::{Stopped, Turn};
@@ -35,7 +35,7 @@ pub struct HNode {
     threshold: u64,
 }
 
-/// At a ticket root a ticket lock stands beside the root's HNode, whose queue nobody uses.
+/// A ticket root has a ticket lock next to the root's HNode, whose queue is not used.
 pub struct Lock {
     pub qnodes: Vec<QNode>,
     pub hnodes: Vec<HNode>,
@@ -43,7 +43,7 @@ pub struct Lock {
     pub inside: Vec<AtomicBool>,
 }
 
-/// One thread that acquires and releases the lock for ever.
+/// One thread that acquires and releases the lock forever.
 pub struct Worker<'a> {
     lock: &'a Lock,
     turn: Turn<'a>,
@@ -115,7 +115,7 @@ impl<'a> Worker<'a> {
         while self.enter_and_leave(thread, home).is_ok() {}
     }
 
-    /// The entry that ends an acquire arrives in the critical section; leaving it is an entry of its own.
+    /// The entry that ends an acquire arrives in the critical section. Leaving it is a separate entry.
     fn enter_and_leave(&self, thread: usize, home: usize) -> Result<(), Stopped> {
         self.acquire(home, thread)?;
         self.lock.inside[thread].store(true, SeqCst);
@@ -142,7 +142,7 @@ impl<'a> Worker<'a> {
         self.release_real(l, i) // 48, 87
     }
 
-    /// The template's choice by depth: the root has its own code, by its kind.
+    /// The template's choice by depth: the root has its own code, depending on its kind.
     fn acquire_real(&self, l: usize, i: usize) -> Result<(), Stopped> {
         match (self.hnode(l).parent, &self.lock.ticket_root) {
             (Some(parent), _) => self.acquire_real_below(l, parent, i),

@@ -1,4 +1,4 @@
-//! The lock file of document 01, its first byte as document 02 says it of a ticket root, its reader with refusals 1 to 3, and the file call with its listing.
+//! The lock file of document 01, with document 02's first byte for a ticket root; its reader with refusals 1 to 3; and the file call with its listing.
 
 use crate::refusals::*;
 use crate::table::*;
@@ -12,7 +12,7 @@ pub const HOME_BIT: u8 = 1;
 pub const PARENT_ABSENT: u8 = 0;
 pub const THRESHOLD_ABSENT: u16 = 16;
 
-/// What the file call returns: 0 and 0 for accepted, and the length of the listing.
+/// What the file call returns: 0 and 0 if accepted, and the length of the listing.
 #[derive(Clone, Copy, Debug, Default, PartialEq, Eq)]
 pub struct FileAnswer {
     pub number: u32,
@@ -53,7 +53,7 @@ impl Reader<'_> {
     }
 
     /// The first byte is the number of domains, and 128 more for a ticket root.
-    /// Domains after the room are read and not kept: the tree is refused for their number.
+    /// Domains that do not fit the arrays are read but not kept. The tree is refused for their number.
     fn domains(&mut self, tree: &mut Tree) -> Outcome<()> {
         let first = self.byte()?;
         tree.ticket_root = first >= TICKET_ROOT_BIT;
@@ -85,7 +85,7 @@ impl Reader<'_> {
     }
 }
 
-/// The entries of a schedule that stands as bytes.
+/// The entries of a schedule given as bytes.
 pub fn entries(schedule: &[u8]) -> impl Iterator<Item = u16> + '_ {
     schedule.chunks_exact(2).map(|entry| u16::from_le_bytes([entry[0], entry[1]]))
 }
@@ -106,7 +106,7 @@ pub fn read(file: &[u8]) -> Outcome<(Tree, &[u8])> {
     Ok((tree, schedule))
 }
 
-/// What reading a file without running it returns: 0 and 0 for accepted, the number of entries of its schedule and its tree; refused, 0 throughout.
+/// What reading a file without running it returns: 0 and 0 if accepted, the number of entries in its schedule, and its tree. If refused, all are 0.
 #[repr(C)]
 #[derive(Clone, Copy, Debug, PartialEq, Eq)]
 pub struct ReadReply {
@@ -116,10 +116,10 @@ pub struct ReadReply {
     pub tree: TreeWords,
 }
 
-/// The form of the call, the reference's and the library's.
+/// The signature of the call, for the reference and the library.
 pub type ReadFile = fn(&[u8], &mut [u16]) -> ReadReply;
 
-/// The schedule goes to the front of its buffer, if it fits.
+/// Writes the schedule at the front of its buffer, if it fits.
 pub fn read_file(file: &[u8], buffer: &mut [u16]) -> ReadReply {
     match read(file) {
         Err(Refusal { number, place }) => ReadReply { number, place, length: 0, tree: TreeWords::of(&Tree::new()) },
@@ -155,7 +155,7 @@ fn listing(counts: Counts, trace: &[u16]) -> Vec<u8> {
     listing
 }
 
-/// The listing of an accepted file, before the output buffer is looked at.
+/// The listing of an accepted file, before the output buffer is checked.
 pub fn list_file(file: &[u8]) -> Outcome<Vec<u8>> {
     let (tree, schedule) = read(file)?;
     accept_tree(&tree)?;
@@ -182,7 +182,7 @@ pub fn run_file(file: &[u8], output: &mut [u8]) -> FileAnswer {
     }
 }
 
-/// What the program prints, its output buffer being as long as the longest file.
+/// What the program prints. Its output buffer is as long as the longest file.
 pub fn print(file: &[u8]) -> Vec<u8> {
     let mut output = vec![0; LONGEST_FILE];
     let answer = run_file(file, &mut output);

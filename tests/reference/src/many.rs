@@ -4,20 +4,20 @@ use crate::refusals::*;
 use crate::table::*;
 use crate::words::TreeWords;
 
-/// Numbers of a row: number, place, steps, entries, stays, root, passed, crossed.
+/// Numbers in a row: number, place, steps, entries, stays, root, passed, crossed.
 pub const ROW: usize = 8;
 
-/// The form of the call, the step table's and the library's: number and place, and how many rows were written.
+/// The signature of the call, for the step table and the library. Returns number, place and how many rows were written.
 pub type RunMany = fn(&TreeWords, &[u32], &[u16], &mut [u32]) -> (u32, u32, usize);
 
-/// 4 to 9 and 16, then 22, then 23. The sum is made in 128 bits.
+/// Refuses by 4 to 9 and 16, then 22, then 23. The sum is computed in 128 bits.
 fn accept_many(tree: &Tree, lengths: &[u32], entries: usize, rows: usize) -> Outcome<()> {
     accept_tree(tree)?;
     refuse_if(22, lengths.iter().map(|&length| length as u128).sum::<u128>() != entries as u128)?;
     refuse_if(23, rows < lengths.len())
 }
 
-/// One schedule on a lock of its own; the trace is thrown away.
+/// Runs one schedule on its own lock and discards the trace.
 fn run_alone(tree: &Tree, schedule: &[u16], trace: &mut Vec<u16>) -> Outcome<Counts> {
     refuse_if(11, schedule.len() > LONGEST_SCHEDULE)?;
     accept_entries(tree, schedule.iter().copied())?;
@@ -32,7 +32,7 @@ fn row(outcome: Outcome<Counts>) -> [u32; ROW] {
     }
 }
 
-/// Rows in the order of the schedules, at the front of the buffer; a refused call leaves the buffer as it came.
+/// Writes the rows at the front of the buffer, in the order of the schedules. A refused call leaves the buffer unchanged.
 pub fn run_many(words: &TreeWords, lengths: &[u32], entries: &[u16], rows: &mut [u32]) -> (u32, u32, usize) {
     let tree = words.tree();
     if let Err(refusal) = accept_many(&tree, lengths, entries.len(), rows.len() / ROW) {

@@ -1,6 +1,6 @@
-//! How often a comparison met each number, and whether it met all that it must.
+//! How often each number occurred in a comparison, and whether all required ones did.
 
-/// One more than the largest number of a refusal.
+/// One more than the largest refusal number.
 const NUMBERS: usize = 31;
 
 pub struct Met {
@@ -9,7 +9,7 @@ pub struct Met {
 }
 
 impl Met {
-    /// These refusals must be met, and acceptance.
+    /// These refusals must occur, and so must acceptance.
     pub fn new(must: &'static [usize]) -> Met {
         Met { must, times: [0; NUMBERS] }
     }

@@ -1,4 +1,4 @@
-//! The check of steps that are named by thread, kind and domain, by the step table.
+//! The check of steps given by thread, kind and domain, by the step table.
 
 use crate::calls::read_state;
 use crate::refusals::{accept_counters, accept_kept, refuse_if};
@@ -16,7 +16,7 @@ pub struct StepsReply {
 
 pub type CheckSteps = fn(&TreeWords, &StateWords, &[u16], &[u16], &[u16]) -> StepsReply;
 
-/// The number that refuses a named step; the state after it where none does.
+/// The number that refuses a named step. If none does, the state is the one after the step.
 fn wrong(tree: &Tree, state: &mut State, thread: u16, kind: u16, domain: u16) -> u32 {
     if thread as usize >= tree.threads {
         return 12;
@@ -40,7 +40,7 @@ fn wrong(tree: &Tree, state: &mut State, thread: u16, kind: u16, domain: u16) ->
     number
 }
 
-/// Refused before the steps, the state as it came and nothing checked; else the state before the first wrong step, or after the last.
+/// If the call is refused before the steps, the state is unchanged and nothing is checked. Otherwise it is the state before the first wrong step, or after the last step.
 pub fn check_steps(words: &TreeWords, state: &StateWords, threads: &[u16], kinds: &[u16], domains: &[u16]) -> StepsReply {
     let tree = words.tree();
     let early = read_state(&tree, state).and_then(|taken| {

@@ -1,4 +1,4 @@
-//! What the programs take from the command line: `--long`, `--seed N`, `--count N`; and how a comparison ends.
+//! The command line options of the programs, `--long`, `--seed N` and `--count N`, and how a comparison ends.
 
 use std::env;
 use std::process::exit;
@@ -33,7 +33,7 @@ fn usage() -> ! {
     exit(2)
 }
 
-/// The end of a comparison: a number that was never met, or a library that is named by all of these variables and not linked, is a failure.
+/// Ends a comparison. It fails if a required number never occurred, or if all of these variables are set and no library is linked.
 pub fn conclude(all_met: bool, compared: bool, named_by: &[&str]) {
     if !all_met {
         println!("a number was never met");

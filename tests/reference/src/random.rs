@@ -1,4 +1,4 @@
-//! A generator of the xorshift kind: the same seed gives the same numbers everywhere.
+//! An xorshift generator: the same seed gives the same numbers everywhere.
 
 pub struct Random(u64);
 
@@ -18,17 +18,17 @@ impl Random {
         self.0.wrapping_mul(0x2545_F491_4F6C_DD1D)
     }
 
-    /// A number below the bound, which is not 0.
+    /// A number below the bound. The bound is not 0.
     pub fn below(&mut self, bound: usize) -> usize {
         ((self.word() >> 32) as usize * bound) >> 32
     }
 
-    /// A number from low to high, both among them.
+    /// A number from low to high, both included.
     pub fn between(&mut self, low: usize, high: usize) -> usize {
         low + self.below(high - low + 1)
     }
 
-    /// True once in so many times.
+    /// True with probability 1/times.
     pub fn one_in(&mut self, times: usize) -> bool {
         self.below(times) == 0
     }

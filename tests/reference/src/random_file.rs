@@ -15,7 +15,7 @@ pub fn random_file(random: &mut Random) -> Vec<u8> {
     }
 }
 
-/// Any bytes, most of them low so that reading gets somewhere.
+/// Any bytes, most of them low, so the reader gets far.
 fn noise(random: &mut Random) -> Vec<u8> {
     let length = random.between(0, 40);
     let bound = random.pick(&[2, 4, 256]);
@@ -42,20 +42,20 @@ pub fn valid_draft(random: &mut Random) -> Draft {
     draft
 }
 
-/// A file has room for so many entries after its longest head.
+/// A file can hold this many entries even after its longest head.
 fn cut_to_fit(draft: &mut Draft) {
     let head = 3 + 4 * draft.parents.len() + 2 * draft.homes.len();
     draft.schedule.truncate((LONGEST_FILE - head) / 2);
 }
 
-/// A file of 65,536 bytes or a few more: entries of thread 0 after a valid one.
+/// A file of 65,536 bytes or a few more: a valid file followed by entries of thread 0.
 fn overlong(random: &mut Random) -> Vec<u8> {
     let mut file = valid_draft(random).write(random);
     file.resize(LONGEST_FILE + random.between(0, 3), 0);
     file
 }
 
-/// A draft with one to three limits broken, so that the order of the refusals shows.
+/// A draft with one to three limits broken, to test the order of the refusals.
 pub fn broken_draft(random: &mut Random) -> Draft {
     let mut draft = valid_draft(random);
     for _ in 0..random.between(1, 3) {
@@ -103,7 +103,7 @@ fn break_parent(random: &mut Random, draft: &mut Draft) {
     }
 }
 
-/// A chain that reaches level 7 or just does not, under the domains from some number on.
+/// Adds a chain of domains after the existing ones that reaches level 7 or stops just short of it.
 fn break_depth(random: &mut Random, draft: &mut Draft) {
     let start = draft.parents.len().max(1);
     let end = (start + random.between(4, 8)).min(MOST_DOMAINS);
@@ -129,7 +129,7 @@ fn break_home(random: &mut Random, draft: &mut Draft) {
     }
 }
 
-/// The threads of one home go to another.
+/// Moves the threads of one home to another.
 fn empty_a_home(random: &mut Random, draft: &mut Draft) {
     if !draft.homes.is_empty() {
         let left = random.pick(&draft.homes);
@@ -141,7 +141,7 @@ fn empty_a_home(random: &mut Random, draft: &mut Draft) {
     }
 }
 
-/// One more domain, under one that has child domains.
+/// Adds a domain under one that has child domains.
 fn add_empty_domain(random: &mut Random, draft: &mut Draft) {
     if draft.parents.len() > 1 && draft.parents.len() < MOST_DOMAINS {
         let sibling = random.between(1, draft.parents.len() - 1);
@@ -159,7 +159,7 @@ fn break_entry(random: &mut Random, draft: &mut Draft) {
     }
 }
 
-/// A valid file, or one with a limit broken, with its bytes changed one to three times.
+/// A valid file, or one that breaks a limit, with its bytes changed one to three times.
 fn damaged(random: &mut Random) -> Vec<u8> {
     let draft = if random.one_in(4) { broken_draft(random) } else { valid_draft(random) };
     let mut file = draft.write(random);

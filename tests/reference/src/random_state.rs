@@ -1,4 +1,4 @@
-//! Random trees and states as a caller hands them in: reached, well formed in any way, and spoilt; starts of a ticket lock; and counters.
+//! Random trees and states of a caller: reached, arbitrary but well formed, and damaged. Also random starts of a ticket lock, and random counters.
 
 use crate::counters::{Counters, MOST_COUNTED};
 use crate::draft::Draft;
@@ -7,7 +7,7 @@ use crate::schedules::{schedule, STYLES};
 use crate::table::*;
 use crate::words::*;
 
-/// A start of a ticket lock, mostly so near 65,535 that its counters come round.
+/// A start of a ticket lock, usually so close to 65,535 that its counters wrap around.
 pub fn random_start(random: &mut Random) -> u16 {
     match random.below(5) {
         0 => 0,
@@ -17,7 +17,7 @@ pub fn random_start(random: &mut Random) -> u16 {
     }
 }
 
-/// The words of a draft's tree; words that are not read are random, and a ticket root is any number but 0.
+/// The words of a draft's tree. Words that are not read are random, and a ticket root is any number except 0.
 pub fn tree_words(random: &mut Random, draft: &Draft) -> TreeWords {
     let mut words = TreeWords {
         domains: draft.parents.len() as u32,
@@ -50,7 +50,7 @@ pub fn random_state(random: &mut Random, tree: &Tree) -> StateWords {
     StateWords::of(&state)
 }
 
-/// Any that are allowed: of one domain or of all so near 2^63 that a few steps, or a long schedule, would push one past it, or as they come.
+/// Any allowed counters. Those of one domain, of all or of none are so close to 2^63 that a few steps or a long schedule would push one past it.
 pub fn random_counters(random: &mut Random, tree: &Tree) -> Counters {
     let mut counters = Counters::ZERO;
     let near = random.pick(&[0, 1, 3, 12, 4_000, 8_000]);
@@ -66,7 +66,7 @@ pub fn random_counters(random: &mut Random, tree: &Tree) -> Counters {
     counters
 }
 
-/// Fresh, with the counters of thread 0's home so near to 2^63 that some thousands of its entries push one past it.
+/// Fresh, with the counters of thread 0's home so close to 2^63 that a few thousand of its entries push one past it.
 pub fn late_state(random: &mut Random, tree: &Tree) -> StateWords {
     let mut state = State::fresh_at(tree, random_start(random));
     if tree.home(0) != ROOT {
@@ -76,14 +76,14 @@ pub fn late_state(random: &mut Random, tree: &Tree) -> StateWords {
     StateWords::of(&state)
 }
 
-/// Mostly far from 2^63, at times about as far as the longest schedule is long.
+/// Usually far from 2^63, and sometimes about as far from it as the longest schedule is long.
 fn random_count(random: &mut Random) -> u64 {
     let edge = MOST_COUNTED - 65_536;
     let counts = [0, 1, 77, u32::MAX as u64, random.word() >> 1, edge - 1, edge, edge + 1];
     random.pick(&counts)
 }
 
-/// After a random schedule from fresh.
+/// The state after a random schedule from fresh.
 pub fn reached(random: &mut Random, tree: &Tree) -> State {
     let (style, length) = (random.pick(&STYLES), random.between(0, 300));
     let mut state = State::fresh_at(tree, random_start(random));
@@ -110,7 +110,7 @@ pub fn any_well_formed(random: &mut Random, tree: &Tree) -> State {
     state
 }
 
-/// Well formed, with most threads in a place that stays: each domain's members name one another in a ring, and some linger for others in Link.
+/// Well formed, with most threads in a place that can stay: the members of each domain name one another in a ring, and some linger for others in Link.
 pub fn waiting(random: &mut Random, tree: &Tree) -> State {
     let mut state = any_well_formed(random, tree);
     for domain in 0..tree.domains {
@@ -136,7 +136,7 @@ pub fn waiting(random: &mut Random, tree: &Tree) -> State {
     state
 }
 
-/// Counters equal, near each other or far apart; tickets of the root's members near them, often one for several, and never too large where watched.
+/// Makes the counters equal, close to each other or far apart. The tickets of the root's members are close to them, often shared, and never too large if watched.
 fn make_ticket_root(random: &mut Random, tree: &Tree, state: &mut State) {
     state.tails[ROOT] = None;
     state.grant = random_start(random);
@@ -204,7 +204,7 @@ fn random_place(random: &mut Random, tree: &Tree, thread: usize) -> Place {
     }
 }
 
-/// Changes one word, often to one that is not well formed; also in unused room and record 256.
+/// Changes one word, often to one that is not well formed. It may be in an unused slot or in record 256.
 pub fn spoil(random: &mut Random, tree: &Tree, words: &mut StateWords) {
     let thread = used_or_not(random, tree.threads, THREAD_ROOM);
     let domain = used_or_not(random, tree.domains, DOMAIN_ROOM);
@@ -224,7 +224,7 @@ pub fn spoil(random: &mut Random, tree: &Tree, words: &mut StateWords) {
     }
 }
 
-/// Changes one counter: of the root, of room that the tree lacks, or to one of the numbers about its limit.
+/// Changes one counter. It may be the root's or in an unused slot, and the new number is usually around a limit.
 fn spoil_counter(random: &mut Random, tree: &Tree, counters: &mut Counters) {
     let domain = if random.one_in(4) { ROOT } else { used_or_not(random, tree.domains, DOMAIN_ROOM) };
     let threshold = tree.thresholds[domain] as u64;
@@ -255,7 +255,7 @@ fn spoil_root(random: &mut Random, tree: &Tree, words: &mut StateWords) {
     }
 }
 
-/// Mostly in use, at times the first behind, at times anywhere in the room.
+/// Usually a slot in use, sometimes the first unused one, sometimes any slot of the array.
 fn used_or_not(random: &mut Random, used: usize, room: usize) -> usize {
     match random.below(6) {
         0 => random.below(room),

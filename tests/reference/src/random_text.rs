@@ -1,15 +1,15 @@
-//! Random texts of trees: of the grammar, within its limits or beyond them, and damaged.
+//! Random texts of trees: those of the grammar, within its limits or beyond them, and damaged ones.
 
 use crate::random::Random;
 
-/// What a text of the grammar may hold, and one byte that none holds.
+/// The bytes that a text of the grammar may contain, and one that it may not.
 pub const ALPHABET: [u8; 15] = *b"()# 0123456789x";
 
 fn number(random: &mut Random, text: &mut Vec<u8>, largest: usize) {
     text.extend(random.between(1, largest).to_string().bytes());
 }
 
-/// A thread count: mostly small, now and then far too large.
+/// A thread count: usually small, sometimes far too large.
 fn count(random: &mut Random, text: &mut Vec<u8>) {
     match random.below(60) {
         0 => text.extend((0..random.between(1, 300)).map(|_| b'1' + random.below(9) as u8)),
@@ -26,7 +26,7 @@ fn threshold(random: &mut Random, text: &mut Vec<u8>) {
     }
 }
 
-/// How many domains a list has at most, by the level of its domains.
+/// The most domains that a list may have, by the level of its domains.
 type Widths = [usize; 8];
 
 fn tree(random: &mut Random, text: &mut Vec<u8>, widths: &Widths, level: usize) {
@@ -46,7 +46,7 @@ fn tree(random: &mut Random, text: &mut Vec<u8>, widths: &Widths, level: usize) 
     text.push(b')');
 }
 
-/// A text, mostly of the grammar: wide or deep, sometimes one level too deep.
+/// A text, usually of the grammar: wide or deep, sometimes one level too deep.
 pub fn random_text(random: &mut Random) -> Vec<u8> {
     let deepest = match random.below(10) {
         0 => 7,

@@ -1,8 +1,8 @@
-//! A rate from passing times, as document 02 says it in (xiii).
+//! A rate computed from passing times, as document 02 defines it in (xiii).
 
 use crate::refusals::{refuse, Outcome, Refusal};
 
-/// The words that cross the library's call.
+/// The words that are passed to the library's call.
 #[derive(Clone, Copy, Debug)]
 #[repr(C)]
 pub struct PassingTimes {
@@ -19,10 +19,10 @@ pub struct RateReply {
     pub rate: f64,
 }
 
-/// The form of the rate's call, this program's and the library's.
+/// The signature of the rate's call, for this program and the library.
 pub type RateCall = fn(u16, u16, PassingTimes) -> RateReply;
 
-/// A number from 1/1024 to 1,048,576, both ends allowed; a NaN is in no range.
+/// Whether a time is from 1/1024 to 1,048,576, both ends included. A NaN is never in range.
 fn in_range(time: f64) -> bool {
     (1.0 / 1024.0..=1_048_576.0).contains(&time)
 }
@@ -41,7 +41,7 @@ pub fn rate(h1: u16, h2: u16, times: PassingTimes) -> Outcome<f64> {
     Ok((h1 * h2) as f64 / (p3 + second + first))
 }
 
-/// The answer in numbers, as the library's call gives it.
+/// The answer in numbers, as the library's call returns it.
 pub fn reply(h1: u16, h2: u16, times: PassingTimes) -> RateReply {
     match rate(h1, h2, times) {
         Ok(rate) => RateReply { number: 0, place: 0, rate },
@@ -49,7 +49,7 @@ pub fn reply(h1: u16, h2: u16, times: PassingTimes) -> RateReply {
     }
 }
 
-/// The same answer, the rate bit for bit.
+/// Whether two answers are the same, with the rates compared bit for bit.
 pub fn same(one: RateReply, other: RateReply) -> bool {
     (one.number, one.place, one.rate.to_bits()) == (other.number, other.place, other.rate.to_bits())
 }

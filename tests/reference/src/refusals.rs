@@ -1,5 +1,5 @@
-//! Refusals 4 to 13 of document 01 and 16 and 19 of document 02, 10 with what document 02 adds of a ticket root and of counters, and the fresh call, the single step and the run
-//! that meet them.
+//! Refusals 4 to 13 of document 01 and 16 and 19 of document 02, with document 02's additions to 10 for a ticket root and for counters. Also the fresh call, the single step
+//! and the run that use them.
 
 use crate::counters::{first_past, MOST_COUNTED};
 use crate::table::*;
@@ -18,7 +18,7 @@ pub fn refuse<T>(number: u32, place: usize) -> Outcome<T> {
     Err(Refusal { number, place: place as u32 })
 }
 
-/// Refused with the lowest place that the test is true of.
+/// Refuses with the lowest place for which the test is true.
 pub fn refuse_first(number: u32, mut places: impl Iterator<Item = usize>, bad: impl Fn(usize) -> bool) -> Outcome<()> {
     match places.find(|&place| bad(place)) {
         Some(place) => refuse(number, place),
@@ -34,7 +34,7 @@ pub fn refuse_if(number: u32, bad: bool) -> Outcome<()> {
     }
 }
 
-/// 4 to 9 and 16, each over the whole tree before the next.
+/// Checks 4 to 9 and 16, each over the whole tree before the next.
 pub fn accept_tree(tree: &Tree) -> Outcome<()> {
     refuse_if(4, tree.domains == 0 || tree.domains > DOMAIN_ROOM)?;
     refuse_if(5, tree.threads == 0 || tree.threads > THREAD_ROOM)?;
@@ -48,7 +48,7 @@ pub fn accept_tree(tree: &Tree) -> Outcome<()> {
     refuse_first(16, 0..tree.domains, |domain| !occupied[domain])
 }
 
-/// Which domains have a thread under them: every home and all above it.
+/// Which domains have a thread under them: every home and all domains above it.
 pub fn occupied(tree: &Tree) -> [bool; DOMAIN_ROOM] {
     let mut occupied = [false; DOMAIN_ROOM];
     for thread in 0..tree.threads {
@@ -63,7 +63,7 @@ pub fn occupied(tree: &Tree) -> [bool; DOMAIN_ROOM] {
     occupied
 }
 
-/// The level of each domain, the root's being 1; every parent is below its child's number.
+/// The level of each domain. The root has level 1, and every parent has a lower number than its child.
 pub fn levels(tree: &Tree) -> [u8; DOMAIN_ROOM] {
     let mut levels = [1; DOMAIN_ROOM];
     for domain in 1..tree.domains {
@@ -81,7 +81,7 @@ pub fn leaves(tree: &Tree) -> [bool; DOMAIN_ROOM] {
     leaves
 }
 
-/// The domain whose member owns the record, if a member owns it.
+/// The domain that the record's owner is a member of, if the record has an owner.
 fn domain_of_record(tree: &Tree, record: usize) -> Option<usize> {
     if record < tree.threads {
         Some(tree.home(record))
@@ -136,7 +136,7 @@ fn place_well_formed(tree: &Tree, state: &State, thread: usize) -> bool {
     }
 }
 
-/// A place that is at a domain's queue.
+/// Whether a place is at a domain's queue.
 fn is_queue_place(place: Place) -> bool {
     !matches!(place, Place::Idle | Place::Inside | Place::Draw | Place::Watch | Place::Raise)
 }
@@ -162,7 +162,7 @@ fn ticket_or_grant_at_a_queue_root(tree: &Tree, state: &State) -> bool {
     !tree.ticket_root && (state.ticket, state.grant) != (0, 0)
 }
 
-/// One of the three counters of a domain that meets the test.
+/// Whether a counter of one of these domains passes the test.
 fn some_counter(state: &State, mut domains: std::ops::Range<usize>, test: impl Fn(u64) -> bool) -> bool {
     domains.any(|domain| state.counters.of(domain).into_iter().any(&test))
 }
@@ -187,7 +187,7 @@ fn tenures_above_the_most(tree: &Tree, state: &State) -> bool {
     state.counters.tenures[1..tree.domains].iter().any(|&count| count > MOST_COUNTED)
 }
 
-/// What 10 refuses by the kind of root or by a counter, each with its name. A longest tenure above 2^63 is above the threshold too.
+/// The reasons for 10 that come from the kind of root or from a counter, each with its name. A longest tenure above 2^63 is also above the threshold.
 pub type Reason = (&'static str, fn(&Tree, &State) -> bool);
 
 pub const REASONS: [Reason; 10] = [
@@ -203,7 +203,7 @@ pub const REASONS: [Reason; 10] = [
     ("tenures above 2^63", tenures_above_the_most),
 ];
 
-/// Well formed but for what the kind of root or a counter refuses.
+/// Well formed, apart from what the kind of root or a counter refuses.
 pub fn words_well_formed(tree: &Tree, state: &State) -> bool {
     (0..DOMAIN_ROOM).all(|domain| tail_well_formed(tree, state, domain))
         && (0..RECORD_ROOM).all(|record| record_well_formed(tree, state, record))
@@ -214,18 +214,18 @@ pub fn well_formed(tree: &Tree, state: &State) -> bool {
     words_well_formed(tree, state) && !REASONS.iter().any(|(_, refuses)| refuses(tree, state))
 }
 
-/// 10.
+/// Checks 10.
 fn accept_state(tree: &Tree, state: &State) -> Outcome<()> {
     refuse_if(10, !well_formed(tree, state))
 }
 
-/// 4 to 9, 16 and 10.
+/// Checks 4 to 9, 16 and 10.
 pub fn accept_kept(tree: &Tree, state: &State) -> Outcome<()> {
     accept_tree(tree)?;
     accept_state(tree, state)
 }
 
-/// 12.
+/// Checks 12.
 pub fn accept_entries(tree: &Tree, schedule: impl Iterator<Item = u16>) -> Outcome<()> {
     for (position, thread) in schedule.enumerate() {
         if thread as usize >= tree.threads {
@@ -235,7 +235,7 @@ pub fn accept_entries(tree: &Tree, schedule: impl Iterator<Item = u16>) -> Outco
     Ok(())
 }
 
-/// 19, last of all.
+/// Checks 19, the last refusal.
 pub fn accept_counters(tree: &Tree, state: &State, schedule: &[u16]) -> Outcome<()> {
     match first_past(tree, state, schedule) {
         Some(position) => refuse(19, position),
@@ -250,7 +250,7 @@ fn accept_step(tree: &Tree, state: &State, thread: u16) -> Outcome<()> {
     accept_counters(tree, state, &[thread])
 }
 
-/// 4 to 9, 16 and 10 to 13: all that a run meets before 19.
+/// Checks 4 to 9, 16 and 10 to 13: all tests of a run before 19.
 pub fn accept_before_counters(tree: &Tree, state: &State, schedule: &[u16], trace: &[u16]) -> Outcome<()> {
     accept_tree(tree)?;
     accept_state(tree, state)?;
@@ -259,20 +259,20 @@ pub fn accept_before_counters(tree: &Tree, state: &State, schedule: &[u16], trac
     refuse_if(13, trace.len() < schedule.len())
 }
 
-/// A fresh state, accepted or refused; where the call is refused its start counts as 0.
+/// A fresh state, accepted or refused. If the call is refused, the start counts as 0.
 pub fn fresh_lock(tree: &Tree, start: u16) -> (Outcome<()>, State) {
     let outcome = accept_tree(tree);
     let start = if outcome.is_ok() { start } else { 0 };
     (outcome, State::fresh_at(tree, start))
 }
 
-/// One step; a refused one leaves the state as it came.
+/// Takes one step. A refused step leaves the state unchanged.
 pub fn step_lock(tree: &Tree, state: &mut State, thread: u16) -> Outcome<Kind> {
     accept_step(tree, state, thread)?;
     Ok(step(tree, state, thread as usize))
 }
 
-/// A run; a refused one has taken no step and leaves state and trace buffer as they came.
+/// Runs a schedule. A refused run takes no step and leaves the state and the trace buffer unchanged.
 pub fn run_lock(tree: &Tree, state: &mut State, schedule: &[u16], trace: &mut [u16]) -> Outcome<Counts> {
     accept_before_counters(tree, state, schedule, trace)?;
     accept_counters(tree, state, schedule)?;

@@ -1,4 +1,4 @@
-//! Random schedules for a tree: from anybody, from few, in bursts, from one thread, or avoiding stays.
+//! Random schedules for a tree: of all threads, of a few, in bursts, of one thread, or avoiding stays.
 
 use crate::random::Random;
 use crate::table::*;
@@ -14,7 +14,7 @@ pub enum Style {
 
 pub const STYLES: [Style; 5] = [Style::Anybody, Style::Few, Style::Bursts, Style::One, Style::Moving];
 
-/// A schedule of the given length; the tree is one that is accepted.
+/// A schedule of the given length. The tree must be accepted.
 pub fn schedule(random: &mut Random, tree: &Tree, style: Style, length: usize) -> Vec<u16> {
     let threads = tree.threads;
     match style {
@@ -41,7 +41,7 @@ fn bursts(random: &mut Random, threads: usize, length: usize) -> Vec<u16> {
     schedule
 }
 
-/// A stay changes nothing, so another thread may be tried in its place.
+/// A stay changes nothing, so another thread can be tried instead.
 fn moving(random: &mut Random, tree: &Tree, length: usize) -> Vec<u16> {
     let mut state = State::fresh();
     let mut schedule = Vec::with_capacity(length);

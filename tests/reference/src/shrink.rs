@@ -1,11 +1,11 @@
-//! Makes a file that shows a difference smaller while it still shows one, and writes it out.
+//! Shrinks a file that shows a difference while it still shows one, and writes it out.
 
-/// Only files this short have their counts lowered together with an entry: every pair of places is tried.
+/// Only files up to this length have a count lowered together with an entry, because every pair of positions is tried.
 const SHORT: usize = 200;
-/// An entry of a domain has at most this many bytes.
+/// The most bytes in an entry of a domain.
 const LONGEST_ENTRY: usize = 4;
 
-/// Takes away stretches, lowers bytes, and takes away entries with their count, until nothing more can go.
+/// Removes stretches, lowers bytes, and removes entries with their count, until nothing more can be removed.
 pub fn shrink(file: &[u8], differs: impl Fn(&[u8]) -> bool) -> Vec<u8> {
     let mut smallest = file.to_vec();
     while take_away(&mut smallest, &differs) | lower(&mut smallest, &differs) || take_away_counted(&mut smallest, &differs) {}
@@ -31,7 +31,7 @@ fn take_away(file: &mut Vec<u8>, differs: &impl Fn(&[u8]) -> bool) -> bool {
     changed
 }
 
-/// A byte less 128 is tried too: the first so names a queue root and as many domains.
+/// Also tries each byte modulo 128: the first byte then means a queue root with the same number of domains.
 fn lower(file: &mut [u8], differs: &impl Fn(&[u8]) -> bool) -> bool {
     let mut changed = false;
     for position in 0..file.len() {
@@ -46,7 +46,7 @@ fn lower(file: &mut [u8], differs: &impl Fn(&[u8]) -> bool) -> bool {
     changed
 }
 
-/// Lowers one byte by one and takes away a stretch after it.
+/// Lowers one byte by one and removes a stretch after it.
 fn take_away_counted(file: &mut Vec<u8>, differs: &impl Fn(&[u8]) -> bool) -> bool {
     if file.len() > SHORT {
         return false;
@@ -66,7 +66,7 @@ fn take_away_counted(file: &mut Vec<u8>, differs: &impl Fn(&[u8]) -> bool) -> bo
     false
 }
 
-/// Long stretches of one byte are written once, with their length.
+/// Writes a long run of one byte once, with its length.
 pub fn hexadecimal(file: &[u8]) -> String {
     let mut texts = Vec::new();
     let mut rest = file;

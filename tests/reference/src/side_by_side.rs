@@ -1,4 +1,4 @@
-//! Step table and Listing 1 side by side: the same words after every schedule entry, and the thread at the same line.
+//! Runs the step table and Listing 1 side by side. After every schedule entry the words must be the same and the thread must be at the same line.
 
 use crate::listing::{HNode, Lock, QNode, Worker, CRITICAL_SECTION};
 use crate::table::*;
@@ -12,7 +12,7 @@ const STACK: usize = 64 * 1024;
 
 type Ways = &'static [(u32, &'static [u32])];
 
-/// From each line that begins a step, the lines at which the same thread's next step may begin, whatever the kind of root.
+/// For each line that begins a step, the lines at which the same thread's next step may begin, for either kind of root.
 const SHARED_WAYS: Ways = &[
     (CRITICAL_SECTION, &[25]),
     (7, &[9]),
@@ -52,7 +52,7 @@ const TICKET_ROOT_WAYS: Ways = &[
     (RAISE, &[DRAW, 53]),
 ];
 
-/// How often each way was taken at one kind of root, and how often a threshold kept a successor from being passed to or a counter came round.
+/// How often each way was taken at one kind of root, how often a threshold prevented passing to a successor, and how often a counter wrapped around.
 #[derive(Default)]
 pub struct Coverage {
     pub entries: u64,
@@ -67,7 +67,7 @@ impl Coverage {
         *self.ways.entry((from, to)).or_insert(0) += 1;
     }
 
-    /// The ways of this kind of root were taken, all of them and no others; a threshold was reached, and a grant went from 65,535 to 0.
+    /// Whether all ways of this kind of root were taken and no others, a threshold was reached, and a grant went from 65,535 to 0.
     pub fn complete(&self, ticket_root: bool) -> bool {
         let own = if ticket_root { TICKET_ROOT_WAYS } else { QUEUE_ROOT_WAYS };
         let ways = SHARED_WAYS.iter().chain(own).flat_map(|&(from, lines)| lines.iter().map(move |&to| (from, to)));
@@ -77,14 +77,14 @@ impl Coverage {
     }
 }
 
-/// The first schedule entry after which the two differ, and in what.
+/// The first schedule entry after which the two differ, and how they differ.
 #[derive(Debug)]
 pub struct Difference {
     pub position: usize,
     pub text: String,
 }
 
-/// Runs the listing by threads and the table beside it; the tree is one that is accepted, and the start that of a ticket root.
+/// Runs the listing in threads, and the table next to it. The tree must be accepted, and the start is for a ticket root.
 pub fn compare(tree: &Tree, start: u16, schedule: &[u16], coverage: &mut Coverage) -> Result<State, Difference> {
     let lock = new_lock(tree, start);
     let turnstile = Turnstile::new();
@@ -145,7 +145,7 @@ fn threshold_reached(tree: &Tree, state: &State, thread: usize) -> bool {
     }
 }
 
-/// Where a thread in this place stands in the listing.
+/// The lines of the listing at which a thread in this place may be.
 fn lines_of(tree: &Tree, thread: usize, place: Place) -> &'static [u32] {
     let at = |domain: usize, root: &'static [u32], below: &'static [u32]| if domain == ROOT { root } else { below };
     match place {

@@ -1,9 +1,9 @@
-//! Document 01's standing ungranted and allowances, with document 02's words on a ticket root.
+//! Document 01's standing ungranted and allowances, with document 02's additions for a ticket root.
 
 use crate::refusals::leaves;
 use crate::table::*;
 
-/// The members of a step's domain whose standing ungranted it begins and ends. From fresh a step ends one at most; in a handed-in state a raise may end several.
+/// The members of a step's domain that the step makes ungranted or granted. From fresh, a step grants at most one. In a given state, a raise may grant several.
 #[derive(Debug, Default, PartialEq, Eq)]
 pub struct Standing {
     pub begins: Option<usize>,
@@ -23,14 +23,14 @@ pub fn standing(tree: &Tree, state: &State, thread: usize) -> Standing {
     }
 }
 
-/// The records that hold the grant as their ticket and that some thread watches.
+/// The records that have the grant as their ticket and are watched by some thread.
 fn shown(tree: &Tree, state: &State, grant: u16) -> Vec<usize> {
     let watches = |thread: usize, record: usize| state.places[thread] == Place::Watch && tree.record(thread, ROOT) == record;
     let is_shown = |&record: &usize| state.statuses[record] == grant as u64 && (0..tree.threads).any(|thread| watches(thread, record));
     (0..RECORD_ROOM).filter(is_shown).collect()
 }
 
-/// Of a member: 1 for a thread, the threshold of a leaf, elsewhere the threshold times the largest allowance of a child domain.
+/// The allowance of a member: 1 for a thread, the threshold for a leaf, otherwise the threshold times the largest allowance of a child domain.
 pub fn allowance(tree: &Tree, member: usize) -> u128 {
     if member < THREAD_ROOM {
         return 1;

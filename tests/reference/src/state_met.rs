@@ -1,11 +1,11 @@
-//! What a comparison met in handed-in states: each reason of 10 that a kind of root or a counter adds, what is accepted at a ticket root, and counters near 2^63.
+//! What a comparison has covered in given states: each reason for 10 that a kind of root or a counter adds, what is accepted at a ticket root, and counters close to 2^63.
 
 use crate::counters::{first_past, MOST_COUNTED};
 use crate::refusals::{accept_tree, well_formed, words_well_formed, REASONS};
 use crate::table::{Place, State, Tree, RECORD_ROOM, ROOT};
 use crate::words::{StateWords, TreeWords};
 
-/// What is told of a call: its number and place, and the schedule.
+/// The outcome of a call: its number and place, and the schedule.
 #[derive(Clone, Copy)]
 pub struct Told<'a> {
     pub number: u32,
@@ -24,10 +24,10 @@ pub struct StateMet {
     counters: CountersMet,
 }
 
-/// The entries that the library counts in one go at most; 19 must be met after them too.
+/// The most entries that the library counts at once. 19 must also occur after that many.
 const PIECE: u32 = 1_024;
 
-/// By position, 19 at the first entry, after it, and after a piece; another number where 19 would have come next; accepted with a counter of 2^63, and with one so near that the steps had to be taken.
+/// Counts 19 by position: at the first entry, after it, and after a piece. Also counts another number when 19 would have come next, and acceptance with a counter of 2^63 or with one so close that the steps had to be taken.
 #[derive(Default)]
 struct CountersMet {
     past_at_first: u64,
@@ -67,7 +67,7 @@ impl CountersMet {
 }
 
 impl StateMet {
-    /// A call on a state, and what was told of it.
+    /// Counts a call on a state, and its outcome.
     pub fn count(&mut self, tree: &TreeWords, state: &StateWords, told: Told) {
         let (tree, state) = match (tree.tree(), state.state()) {
             (tree, Some(state)) if accept_tree(&tree).is_ok() => (tree, state),
@@ -82,7 +82,7 @@ impl StateMet {
         }
     }
 
-    /// A reason counts where it is the only one.
+    /// A reason counts only if it is the only one.
     fn count_refused(&mut self, tree: &Tree, state: &State) {
         let reasons: Vec<usize> = (0..REASONS.len()).filter(|&reason| REASONS[reason].1(tree, state)).collect();
         if let ([reason], true) = (&reasons[..], words_well_formed(tree, state)) {
@@ -112,7 +112,7 @@ impl StateMet {
         self.counters.print();
     }
 
-    /// All of it was met, and each kind of root as often as the other within a quarter.
+    /// Whether everything occurred, and the two kinds of root occurred equally often to within a quarter.
     pub fn complete(&self) -> bool {
         let accepted = [self.queue, self.ticket, self.one_ticket, self.far_apart, self.nobody_to_raise];
         let equally = 4 * self.queue.abs_diff(self.ticket) <= self.queue.max(self.ticket);

@@ -1,4 +1,4 @@
-//! Document 01's tree, words and step table, document 02's ticket lock at the root, and what each row counts; one function for each row.
+//! Document 01's tree, words and step table, document 02's ticket lock at the root, and what each row counts. Each row is one function.
 
 use crate::counters::{show, Counters};
 
@@ -14,7 +14,7 @@ pub const WAIT: u64 = u64::MAX;
 pub const UNLOCKED: u64 = 0;
 pub const LOCKED: u64 = 1;
 
-/// The counts stand beside the rooms, so that a tree with too many domains or threads can be named. The root is a queue or a ticket lock.
+/// The counts are separate from the arrays, so a tree with too many domains or threads can be represented. The root is a queue or a ticket lock.
 #[derive(Clone, Debug)]
 pub struct Tree {
     pub domains: usize,
@@ -25,7 +25,7 @@ pub struct Tree {
     pub ticket_root: bool,
 }
 
-/// Draw, Watch and Raise are the places of a ticket lock, at the root.
+/// Draw, Watch and Raise are the places of a ticket lock at the root.
 #[derive(Clone, Copy, Debug, PartialEq, Eq)]
 pub enum Place {
     Idle,
@@ -44,7 +44,7 @@ pub enum Place {
     Raise,
 }
 
-/// Ticket and grant are those of a ticket lock at the root, 0 at a queue root.
+/// Ticket and grant belong to a ticket lock at the root. They are 0 at a queue root.
 #[derive(Clone, Debug, PartialEq, Eq)]
 pub struct State {
     pub tails: [Option<u16>; DOMAIN_ROOM],
@@ -89,12 +89,12 @@ impl Tree {
         self.homes[thread] as usize
     }
 
-    /// The domain is a ticket lock and no queue.
+    /// Whether the domain is a ticket lock rather than a queue.
     pub fn is_ticket(&self, domain: usize) -> bool {
         self.ticket_root && domain == ROOT
     }
 
-    /// The child of a domain on the thread's path; the domain lies above the thread's home.
+    /// The child of a domain on the thread's path. The domain is above the thread's home.
     pub fn child_on_path(&self, thread: usize, domain: usize) -> usize {
         let mut child = self.home(thread);
         while self.parent(child) != domain {
@@ -103,7 +103,7 @@ impl Tree {
         child
     }
 
-    /// The record of the thread at a domain on its path.
+    /// The thread's record at a domain on its path.
     pub fn record(&self, thread: usize, domain: usize) -> usize {
         if domain == self.home(thread) {
             thread
@@ -137,14 +137,14 @@ impl State {
         }
     }
 
-    /// Fresh, with the counters of a ticket lock at this start; at a queue root there is none, and the counters are 0.
+    /// Fresh, with both counters of a ticket lock at this start. A queue root has no ticket lock, and its counters are 0.
     pub fn fresh_at(tree: &Tree, start: u16) -> State {
         let start = if tree.ticket_root { start } else { 0 };
         State { ticket: start, grant: start, ..State::fresh() }
     }
 }
 
-/// The domain that a thread's next step is at: home for Idle and leaving.
+/// The domain of a thread's next step: its home for Idle and for leaving.
 pub fn domain_of(tree: &Tree, state: &State, thread: usize) -> usize {
     match state.places[thread] {
         Place::Idle | Place::Inside => tree.home(thread),
@@ -155,7 +155,7 @@ pub fn domain_of(tree: &Tree, state: &State, thread: usize) -> usize {
     }
 }
 
-/// One schedule entry: one row of the table.
+/// Takes one schedule entry, which is one row of the table.
 #[inline]
 pub fn step(tree: &Tree, state: &mut State, thread: usize) -> Kind {
     match state.places[thread] {
@@ -213,7 +213,7 @@ fn released_next(tree: &Tree, domain: usize) -> Place {
     }
 }
 
-/// The place after a domain is done.
+/// The place after a domain is finished.
 fn done(tree: &Tree, thread: usize, domain: usize) -> Place {
     if domain == tree.home(thread) {
         Place::Idle
@@ -367,7 +367,7 @@ impl Counts {
 }
 
 impl Kind {
-    /// As a step's answer tells it.
+    /// The number of the kind in a step's answer.
     pub fn number(self) -> u32 {
         match self {
             Kind::Stay => 0,

@@ -1,5 +1,5 @@
-//! Trees as text, read as document 02's request (i) says: a grammar, its places of refusal, and the limits of document 01.
-//! It is written from the document: a reader that takes one production after another off the front of the text.
+//! Trees as text, read as request (i) of document 02 says: a grammar, the places of its refusals, and the limits of document 01.
+//! Written from the document: the reader takes one production after another from the front of the text.
 
 use crate::table::{DOMAIN_ROOM, THREAD_ROOM};
 use crate::words::TreeWords;
@@ -8,7 +8,7 @@ use crate::words::TreeWords;
 const LEVELS: usize = 6;
 const LARGEST_THRESHOLD: u32 = 65_535;
 
-/// What reading a text answers.
+/// What reading a text returns.
 #[derive(Clone, Copy, Debug, PartialEq, Eq)]
 #[repr(C)]
 pub struct TextAnswer {
@@ -17,13 +17,13 @@ pub struct TextAnswer {
     pub tree: TreeWords,
 }
 
-/// A domain as it was read: the domain that it lies below, and its threshold.
+/// A domain as it was read: its parent and its threshold.
 struct Domain {
     parent: usize,
     threshold: u32,
 }
 
-/// The text, how much of it is read, and what was read. Threads are kept as runs of one home, so that no count is too large.
+/// The text, how much of it has been read, and the result so far. Threads are kept as runs with the same home, so no count is too large.
 struct Reader<'a> {
     text: &'a [u8],
     read: usize,
@@ -31,7 +31,7 @@ struct Reader<'a> {
     threads: Vec<(usize, u128)>,
 }
 
-/// The place of the first byte that no text could continue with.
+/// The position of the first byte with which no text could continue.
 struct Leaves(usize);
 
 impl Reader<'_> {
@@ -51,7 +51,7 @@ impl Reader<'_> {
         Ok(())
     }
 
-    /// A number from 1 without leading zeros. A digit that would take it above the largest is not taken.
+    /// A number from 1 up, without leading zeros. A digit that would make it larger than the largest is not read.
     fn number(&mut self, largest: Option<u32>) -> Result<u128, Leaves> {
         if !matches!(self.next(), Some(b'1'..=b'9')) {
             return self.leaves();
@@ -68,7 +68,7 @@ impl Reader<'_> {
         Ok(value)
     }
 
-    /// What stands in parentheses: the root's tree, or that of a domain with this number and level.
+    /// The contents of parentheses: the tree of the root, or of a domain with this number and level.
     fn tree(&mut self, domain: usize, level: usize) -> Result<(), Leaves> {
         self.take(b'(')?;
         if self.next() == Some(b'#') {
@@ -87,7 +87,7 @@ impl Reader<'_> {
         self.take(b')')
     }
 
-    /// A threshold and a tree. The number of a domain is how many parentheses opened before its own.
+    /// A threshold and a tree. The number of a domain is the number of parentheses opened before its own.
     fn domain(&mut self, parent: usize, level: usize) -> Result<(), Leaves> {
         let threshold = self.number(Some(LARGEST_THRESHOLD))? as u32;
         if self.next() != Some(b'(') {
@@ -115,7 +115,7 @@ fn refused(number: u32, place: usize) -> TextAnswer {
     TextAnswer { number, place, tree: NO_TREE }
 }
 
-/// Reads a text: refused by 15 at its place, then by 4, then by 5; else the words of the tree.
+/// Reads a text. It is refused by 15 at its place, then by 4, then by 5. Otherwise the words of the tree are returned.
 pub fn read_text(text: &[u8]) -> TextAnswer {
     let mut reader = Reader { text, read: 0, domains: vec![Domain { parent: 0, threshold: 0 }], threads: Vec::new() };
     if let Err(Leaves(place)) = reader.text() {

@@ -1,11 +1,11 @@
-//! The ticket lock of source document 001, section 2, as a program of its own: what stands in for Listing 1's second template at a ticket root.
+//! The ticket lock of source document 001, section 2, as a separate program. It replaces Listing 1's second template at a ticket root.
 //! A ticket is kept in the status of the QNode that draws it. `before` begins a schedule entry, as in the listing.
 
 use crate::listing::QNode;
 use crate::turnstile::{Stopped, Turn};
 use std::sync::atomic::{AtomicU16, Ordering::SeqCst};
 
-/// The lines of this program, numbered after those of the listing, of which 89 is the last.
+/// The lines of this program, numbered after those of the listing, which ends at 89.
 pub const DRAW: u32 = 90;
 pub const WATCH: u32 = 91;
 pub const RAISE: u32 = 92;
@@ -25,7 +25,7 @@ impl TicketLock {
         (self.ticket.load(SeqCst), self.grant.load(SeqCst))
     }
 
-    /// Takes the ticket and increments, then waits until the grant equals it; the first look is in the entry that draws.
+    /// Takes a ticket and increments the counter, then waits until the grant equals the ticket. The first comparison is in the entry that draws.
     pub fn acquire(&self, node: &QNode, turn: &Turn) -> Result<(), Stopped> {
         turn.before(DRAW)?;
         node.set_status(self.ticket.fetch_add(1, SeqCst) as u64);

@@ -1,4 +1,4 @@
-//! What the command's tables must say, by the step table: as it prints them for a spreadsheet.
+//! What the command's tables must contain, by the step table, in the form printed for a spreadsheet.
 
 use crate::counters::Counters;
 use crate::rate::{rate, PassingTimes};
@@ -22,7 +22,7 @@ pub fn accept(file: &[u8]) -> Result<Accepted, Refusal> {
     Ok(Accepted { tree, schedule })
 }
 
-/// The run of a schedule from a fresh lock: what it counts, the rows of its waits, the last being that of all threads, and the attempts that had not
+/// The run of a schedule from a fresh lock: its counts, the rows of its waits with the row of all threads last, and the attempts that had not
 /// ended.
 pub struct Waited {
     pub reply: RunReply,
@@ -42,7 +42,7 @@ pub fn waited(tree: &Tree, schedule: &[u16]) -> Waited {
     Waited { reply, rows, under_way }
 }
 
-/// The others' entries since a thread's last attempt began, if it has not entered since.
+/// The entries of the others since a thread's last attempt began, if it has not entered since.
 fn under_way(steps: &[Seen], thread: u16) -> Option<u64> {
     let own = |step: &Seen| step.thread == thread;
     let from = steps.iter().rposition(|step| own(step) && step.begins)?;
@@ -50,7 +50,7 @@ fn under_way(steps: &[Seen], thread: u16) -> Option<u64> {
     (!meanwhile.iter().any(|step| own(step) && step.enters)).then(|| meanwhile.iter().filter(|step| !own(step) && step.enters).count() as u64)
 }
 
-/// Which threads and attempts the waits leave out.
+/// The threads and attempts that the waits leave out.
 struct Missing {
     never_entered: usize,
     fewest_entries: u64,
@@ -64,7 +64,7 @@ impl Missing {
         Missing::among(run, |_| true)
     }
 
-    /// Of some threads alone.
+    /// Only for some of the threads.
     fn among(run: &Waited, is_asked: impl Fn(usize) -> bool) -> Missing {
         let threads: Vec<usize> = (0..run.under_way.len()).filter(|&thread| is_asked(thread)).collect();
         let never_entered = threads.iter().filter(|&&thread| run.rows[thread][0] == 0).count();
@@ -80,19 +80,19 @@ impl Missing {
     }
 }
 
-/// The longest wait of each thread, as the call gives it.
+/// The longest wait of each thread, as the call returns it.
 fn longest_waits(tree: &Tree) -> Vec<u64> {
     let mut bounds = [0; THREAD_ROOM];
     assert_eq!(bounds::wait_bounds(&TreeWords::of(tree), &mut bounds).0, 0, "a tree that was accepted");
     bounds[..tree.threads].to_vec()
 }
 
-/// A number, or nothing.
+/// A number, or an empty field.
 fn field(number: Option<u64>) -> String {
     number.map_or(String::new(), |number| number.to_string())
 }
 
-/// Numerator, denominator and decimal of a mean, or nothing.
+/// Numerator, denominator and decimal value of a mean, or empty fields.
 fn mean_fields(numerator: u64, denominator: u64) -> String {
     if denominator == 0 {
         return ",,".to_string();
@@ -100,7 +100,7 @@ fn mean_fields(numerator: u64, denominator: u64) -> String {
     format!("{numerator},{denominator},{}", decimal(numerator, denominator))
 }
 
-/// What the state after a run has counted of its domains.
+/// The counters of the domains in the state after a run.
 fn counters(run: &Waited) -> Counters {
     run.reply.state.state().expect("a state that a run reached").counters
 }
@@ -122,12 +122,12 @@ fn push_tenures(tree: &Tree, run: &Waited, domain: usize, table: &mut String) {
     }
 }
 
-/// The domain is on the way from the thread's home to the root.
+/// Whether the domain is on the path from the thread's home to the root.
 fn is_under(tree: &Tree, thread: usize, domain: usize) -> bool {
     std::iter::successors(Some(tree.home(thread)), |&above| (above != ROOT).then(|| tree.parent(above))).any(|above| above == domain)
 }
 
-/// Two digits after the point, of a number that is not below 0.
+/// Two digits after the decimal point, for a number that is not negative.
 fn decimal(numerator: u64, denominator: u64) -> String {
     format!("{:.2}", if denominator == 0 { 0.0 } else { numerator as f64 / denominator as f64 })
 }
@@ -153,7 +153,7 @@ pub fn waits_table(accepted: &Accepted) -> String {
     table
 }
 
-/// The first three columns of the counts; the last one has words alone.
+/// The first three columns of the counts. The last column holds only words.
 pub fn run_table(accepted: &Accepted) -> Vec<String> {
     let run = waited(&accepted.tree, &accepted.schedule);
     let RunReply { steps, entries, stays, root, passed, crossed, .. } = run.reply;
@@ -173,13 +173,13 @@ pub fn run_table(accepted: &Accepted) -> Vec<String> {
     ]
 }
 
-/// What a sweep runs: one schedule for all rows, or one made for each row's tree.
+/// What a sweep runs: one schedule for all rows, or one made for the tree of each row.
 pub enum Swept<'a> {
     Turns(&'a [u16]),
     Busy { count: usize, seed: u64, work: u64 },
 }
 
-/// A sweep of some domains together over some thresholds, and of one schedule.
+/// The rows of a sweep: for each threshold, all of these domains get it and the schedule is run.
 pub fn sweep_rows(tree: &Tree, swept: &Swept, domains: &[usize], thresholds: &[u16], times: Option<PassingTimes>) -> Vec<String> {
     let row = |&threshold: &u16| {
         let mut tree = tree.clone();
@@ -203,7 +203,7 @@ pub fn sweep_rows(tree: &Tree, swept: &Swept, domains: &[usize], thresholds: &[u
     thresholds.iter().map(row).collect()
 }
 
-/// The time per entry of a run, and by the rate: each after a comma, and nothing where there is none.
+/// The time per entry of a run, and the one from the rate. Each follows a comma, and is empty if there is none.
 fn time_fields(tree: &Tree, times: PassingTimes, reply: &RunReply) -> String {
     let RunReply { entries, root, passed, crossed, .. } = *reply;
     let time = (times.p1 * passed as f64 + times.p2 * crossed as f64 + times.p3 * root as f64) / entries as f64;
@@ -216,7 +216,7 @@ fn time_fields(tree: &Tree, times: PassingTimes, reply: &RunReply) -> String {
     format!(",{time},{}", by_rate.map_or(String::new(), |rate| (1.0 / rate).to_string()))
 }
 
-/// The threshold of each level below the root, where every level has one and all homes are on the last level.
+/// The threshold of each level below the root, if each level has a single one and all homes are on the last level.
 fn thresholds_of_levels(tree: &Tree) -> Option<Vec<u16>> {
     let level = |domain: usize| std::iter::successors(Some(domain), |&above| (above != ROOT).then(|| tree.parent(above))).count();
     let last = (0..tree.domains).map(level).max()?;
@@ -231,7 +231,7 @@ fn thresholds_of_levels(tree: &Tree) -> Option<Vec<u16>> {
 
 const ROWS: [&str; 14] = ["Idle", "Prep", "Swap", "Link", "Wait", "Inside", "Check", "Help", "Cas", "Linger", "Grant", "Draw", "Watch", "Raise"];
 
-/// The domains, each after its parent and before what follows on the parent's level, two spaces in front for each level below the root.
+/// The domains, each after its parent and before the next domain of the parent's level. Each level below the root adds two spaces of indentation.
 pub fn tree_rows(tree: &Tree) -> Vec<String> {
     let mut rows = Vec::new();
     push_domain(tree, ROOT, 1, &mut rows);
@@ -249,12 +249,12 @@ fn push_domain(tree: &Tree, domain: usize, level: usize, rows: &mut Vec<String>)
     }
 }
 
-/// The longest wait of the threads that are at home in a domain, or nothing.
+/// The longest wait of the threads whose home is a domain, or an empty field.
 fn home_wait(tree: &Tree, domain: usize) -> String {
     field((0..tree.threads).find(|&thread| tree.home(thread) == domain).map(|thread| longest_waits(tree)[thread]))
 }
 
-/// One line a step: turn, thread, domain and row in front, who is inside at the end, and the kind of the step.
+/// One line for each step: turn, thread, domain and row at the front, the threads inside at the end, and the kind of the step.
 pub fn step_lines(accepted: &Accepted) -> Vec<(String, Kind, String)> {
     let tree = &accepted.tree;
     let mut state = State::fresh_at(tree, 0);
@@ -268,7 +268,7 @@ pub fn step_lines(accepted: &Accepted) -> Vec<(String, Kind, String)> {
     accepted.schedule.iter().enumerate().map(|step| line(step)).collect()
 }
 
-/// The generator of the schedules that the command makes: splitmix64.
+/// The generator for the schedules that the command makes: splitmix64.
 struct Drawn(u64);
 
 impl Drawn {
@@ -281,7 +281,7 @@ impl Drawn {
     }
 }
 
-/// The schedule that the command makes of the words bursts:COUNT:SEED:LENGTH; of random:COUNT:SEED it is that of LENGTH 1.
+/// The schedule that the command makes for bursts:COUNT:SEED:LENGTH. For random:COUNT:SEED it is the one with LENGTH 1.
 pub fn bursts(count: usize, seed: u64, length: u64, threads: usize) -> Vec<u16> {
     let mut drawn = Drawn(seed);
     let mut schedule = Vec::new();
@@ -293,7 +293,7 @@ pub fn bursts(count: usize, seed: u64, length: u64, threads: usize) -> Vec<u16> 
     schedule
 }
 
-/// The schedule that the command makes of the words busy:COUNT:SEED:WORK, without WORK that of WORK 0: who can move is found by trying everybody.
+/// The schedule that the command makes for busy:COUNT:SEED:WORK. Without WORK it is the one with WORK 0. Who can move is found by trying every thread.
 pub fn busy(tree: &Tree, count: usize, seed: u64, work: u64) -> Vec<u16> {
     let mut drawn = Drawn(seed);
     let mut state = State::fresh_at(tree, 0);
@@ -317,8 +317,8 @@ pub fn busy(tree: &Tree, count: usize, seed: u64, work: u64) -> Vec<u16> {
     schedule
 }
 
-/// What an entry costs on the busy schedule that a choice runs, where no thread can wait for more than the limit: the thresholds are those of the
-/// levels below the root, the times 0.05, 0.2 and 1.
+/// The cost of an entry on the busy schedule that a choice runs, if no thread can wait for more than the limit. The thresholds are those of the
+/// levels below the root, and the times are 0.05, 0.2 and 1.
 pub fn cost_within(tree: &Tree, thresholds: &[u16], limit: u64) -> Option<f64> {
     let level = |domain: usize| std::iter::successors(Some(domain), |&above| (above != ROOT).then(|| tree.parent(above))).count();
     let mut tree = tree.clone();

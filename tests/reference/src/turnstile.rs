@@ -1,4 +1,4 @@
-//! Threads that take turns: each waits before a step until the schedule names it.
+//! Threads that take turns: before each step, a thread waits until the schedule names it.
 
 use std::cell::Cell;
 use std::sync::atomic::{AtomicBool, AtomicU32, AtomicUsize, Ordering::SeqCst};
@@ -6,7 +6,7 @@ use std::thread::{self, Thread};
 
 const NOBODY: usize = usize::MAX;
 
-/// The run has ended; a thread that meets this returns.
+/// The run has ended; a thread that sees this returns.
 #[derive(Debug)]
 pub struct Stopped;
 
@@ -24,14 +24,14 @@ pub struct Turn<'a> {
     held: Cell<bool>,
 }
 
-/// The scheduler's side; when it goes, in a panic too, the waiting threads are stopped.
+/// The scheduler's side. When it is dropped, even in a panic, the waiting threads are stopped.
 pub struct Scheduler<'a> {
     turnstile: &'a Turnstile,
     threads: Vec<Thread>,
 }
 
 impl Turnstile {
-    /// Made by the thread that will be the scheduler.
+    /// Called by the thread that will be the scheduler.
     pub fn new() -> Turnstile {
         Turnstile { scheduler: thread::current(), turn: AtomicUsize::new(NOBODY), line: AtomicU32::new(0), stopped: AtomicBool::new(false) }
     }
@@ -52,7 +52,7 @@ impl Default for Turnstile {
 }
 
 impl Turn<'_> {
-    /// Ends the step that the thread is in and waits for the turn of the next, which begins at this line of the listing.
+    /// Ends the thread's current step and waits for the turn of the next one, which begins at this line of the listing.
     pub fn before(&self, line: u32) -> Result<(), Stopped> {
         if self.held.replace(false) {
             self.turnstile.line.store(line, SeqCst);
@@ -75,7 +75,7 @@ impl Turn<'_> {
 }
 
 impl Drop for Turn<'_> {
-    /// A thread that panics in its turn must not leave the scheduler waiting.
+    /// A thread that panics during its turn must not leave the scheduler waiting.
     fn drop(&mut self) {
         if self.held.get() {
             self.give_back();
@@ -89,7 +89,7 @@ impl Scheduler<'_> {
         self.threads.push(thread);
     }
 
-    /// Lets one thread take one step and returns the line that its next step begins at.
+    /// Lets one thread take one step and returns the line at which its next step begins.
     pub fn pass(&self, thread: usize) -> u32 {
         self.turnstile.turn.store(thread, SeqCst);
         self.threads[thread].unpark();

@@ -1,11 +1,11 @@
-//! A run with waits, written from document 02, request (vi), and one that goes on from attempts under way.
+//! A run with waits, written from document 02, request (vi), and a run that continues attempts under way.
 
 use crate::calls::{read_state, run_reply};
 use crate::refusals::*;
 use crate::table::*;
 use crate::words::*;
 
-/// Numbers of a row: attempts, total, largest, numerator and denominator of the mean.
+/// Numbers in a row: attempts, total, largest, numerator and denominator of the mean.
 pub const ROW: usize = 5;
 
 /// What the run returns, and how many rows were written.
@@ -30,23 +30,23 @@ impl WaitsReply {
         WaitsReply { number, place, steps, entries, stays, root, passed, crossed, rows, state }
     }
 
-    /// The run's part.
+    /// The part that a plain run returns.
     pub fn run(self) -> RunReply {
         let WaitsReply { number, place, steps, entries, stays, root, passed, crossed, rows: _, state } = self;
         RunReply { number, place, steps, entries, stays, root, passed, crossed, state }
     }
 }
 
-/// Of each thread 0 where no attempt is under way, else one more than the other threads' entries since it began.
+/// For each thread, 0 if no attempt is under way, otherwise one more than the other threads' entries since it began.
 pub type UnderWay = [u64; 256];
 
-/// The form of the call, the step table's and the library's.
+/// The signature of the call, for the step table and the library.
 pub type RunWaits = fn(&TreeWords, &StateWords, &[u16], &mut [u16], &mut [u64]) -> WaitsReply;
 
-/// The same of the call that goes on.
+/// The same for the continued call.
 pub type RunWaitsOn = fn(&TreeWords, &StateWords, &[u16], &mut [u16], &mut [u64], &mut UnderWay) -> WaitsReply;
 
-/// What a step was, as far as waits look at it.
+/// The facts about a step that waits depend on.
 #[derive(Clone, Copy)]
 pub struct Seen {
     pub thread: u16,
@@ -54,7 +54,7 @@ pub struct Seen {
     pub enters: bool,
 }
 
-/// An attempt begins with the Swap at home; where home is a ticket root, with the draw, from Idle or Draw.
+/// An attempt begins with the Swap at home. If home is a ticket root, it begins with the draw, from Idle or Draw.
 pub fn begins(tree: &Tree, place: Place, thread: usize) -> bool {
     let home = tree.home(thread);
     match place {
@@ -64,7 +64,7 @@ pub fn begins(tree: &Tree, place: Place, thread: usize) -> bool {
     }
 }
 
-/// Of one thread, or of all together.
+/// The sums of one thread, or of all threads together.
 #[derive(Clone, Copy, Default)]
 struct Sum {
     attempts: u64,
@@ -79,7 +79,7 @@ impl Sum {
         self.largest = self.largest.max(wait);
     }
 
-    /// The mean is brought to lowest terms by taking out each number that divides both.
+    /// The mean is reduced to lowest terms by dividing by each common divisor.
     fn row(self) -> [u64; ROW] {
         let (mut numerator, mut denominator) = (self.total, self.attempts);
         if numerator == 0 {
@@ -98,7 +98,7 @@ impl Sum {
     }
 }
 
-/// Takes the steps; each thread's attempt under way is the number of entries before it began, which for one from before the run is below 0.
+/// Takes the steps. Each attempt under way is stored as the number of entries before it began, which is below 0 for an attempt from before the run.
 fn take(tree: &Tree, state: &mut State, schedule: &[u16], trace: &mut [u16], sums: &mut [Sum], under_way: &mut UnderWay) -> Counts {
     let mut counts = Counts::default();
     let mut began: Vec<Option<u64>> = under_way[..tree.threads].iter().map(|&number| (number != 0).then(|| 1u64.wrapping_sub(number))).collect();
@@ -134,12 +134,12 @@ fn write(sums: &[Sum], rows: &mut [u64]) {
     rows[ROW * sums.len()..][..ROW].copy_from_slice(&all.row());
 }
 
-/// 27: above 2^63, or not 0 after the last thread.
+/// Refuses by 27: a number is above 2^63, or is not 0 after the last thread.
 fn accept_under_way(tree: &Tree, under_way: &UnderWay) -> Outcome<()> {
     refuse_first(27, 0..under_way.len(), |thread| under_way[thread] > 1 << 63 || (thread >= tree.threads && under_way[thread] != 0))
 }
 
-/// A refused call leaves state, trace, rows and numbers as they came.
+/// A refused call leaves state, trace, rows and numbers unchanged.
 pub fn run_waits_on(words: &TreeWords, state: &StateWords, schedule: &[u16], trace: &mut [u16], rows: &mut [u64], under_way: &mut UnderWay) -> WaitsReply {
     let tree = words.tree();
     let outcome = read_state(&tree, state).and_then(|mut taken| {
@@ -156,7 +156,7 @@ pub fn run_waits_on(words: &TreeWords, state: &StateWords, schedule: &[u16], tra
     WaitsReply::of(run_reply(outcome, state), rows)
 }
 
-/// Attempts that begin and finish within the run: none is under way before it.
+/// Counts attempts that begin and finish within the run: none is under way before it.
 pub fn run_waits(words: &TreeWords, state: &StateWords, schedule: &[u16], trace: &mut [u16], rows: &mut [u64]) -> WaitsReply {
     run_waits_on(words, state, schedule, trace, rows, &mut [0; 256])
 }
@@ -174,13 +174,13 @@ pub fn seen(tree: &Tree, state: &State, schedule: &[u16]) -> Vec<Seen> {
         .collect()
 }
 
-/// A thread's waits, each looked for from where its attempt begins: the other threads' entries up to its own next one.
+/// A thread's waits, each searched from the beginning of its attempt: the other threads' entries up to its own next one.
 pub fn waits(steps: &[Seen], thread: u16) -> Vec<u64> {
     (0..steps.len()).filter(|&at| steps[at].thread == thread && steps[at].begins).filter_map(|from| Some(others(steps, thread, from, own_entry(steps, thread, from)?))).collect()
 }
 
-/// The same from an attempt under way, whose wait comes first where it finishes before another begins; and the number of the attempt under way after the steps,
-/// looked for from the thread's last beginning or entry.
+/// The same from an attempt under way, whose wait comes first if it finishes before another begins. Also the number of the attempt under way after the steps,
+/// searched from the thread's last beginning or entry.
 pub fn waits_from(steps: &[Seen], thread: u16, number: u64) -> (Vec<u64>, u64) {
     let own = |step: &&Seen| step.thread == thread && (step.begins || step.enters);
     let first = (number != 0).then(|| steps.iter().find(own)).flatten().filter(|step| !step.begins);
@@ -195,7 +195,7 @@ pub fn waits_from(steps: &[Seen], thread: u16, number: u64) -> (Vec<u64>, u64) {
     (from_before.into_iter().chain(waits(steps, thread)).collect(), left)
 }
 
-/// Where the thread enters next, from a step on.
+/// The step at which the thread enters next, from a given step on.
 fn own_entry(steps: &[Seen], thread: u16, from: usize) -> Option<usize> {
     Some(from + steps[from..].iter().position(|step| step.thread == thread && step.enters)?)
 }

@@ -1,4 +1,4 @@
-//! The words that cross a call, laid out as C lays them out, and the tree and state that they mean.
+//! The words that are passed in a call, laid out as in C, and the tree and state that they stand for.
 
 use crate::counters::Counters;
 use crate::table::*;
@@ -15,7 +15,7 @@ pub struct TreeWords {
     pub ticket_root: u32,
 }
 
-/// A row of the step table, 0 Idle to 13 Raise; a part that the row lacks is 0.
+/// A row of the step table, from 0 Idle to 13 Raise. A part that the row does not have is 0.
 #[repr(C)]
 #[derive(Clone, Copy, Debug, Default, PartialEq, Eq)]
 pub struct PlaceWords {
@@ -25,7 +25,7 @@ pub struct PlaceWords {
     pub word: u64,
 }
 
-/// The places of all threads: an array for each number.
+/// The places of all threads, with one array for each number.
 #[repr(C)]
 #[derive(Clone, Copy, Debug, PartialEq, Eq)]
 pub struct PlaceArrays {
@@ -35,7 +35,7 @@ pub struct PlaceArrays {
     pub words: [u64; THREAD_ROOM],
 }
 
-/// A tail or a next is 0 for none, else the record's number and 1.
+/// A tail or a next is 0 for none, otherwise the record's number plus 1.
 #[repr(C)]
 #[derive(Clone, Copy, Debug, PartialEq, Eq)]
 pub struct StateWords {
@@ -56,7 +56,7 @@ pub struct Reply {
     pub state: StateWords,
 }
 
-/// Number and place of a step's answer, its kind and the domain it was at.
+/// Number and place of a step's answer, its kind and its domain.
 #[repr(C)]
 #[derive(Clone, Copy, Debug, Default, PartialEq, Eq)]
 pub struct StepAnswer {
@@ -112,7 +112,7 @@ impl TreeWords {
 }
 
 impl PlaceWords {
-    /// None where the four numbers are no place.
+    /// None if the four numbers are not a place.
     pub fn place(self) -> Option<Place> {
         let PlaceWords { row, domain, peer, word } = self;
         match (row, domain, peer, word) {
@@ -185,12 +185,12 @@ fn record_word(record: Option<u16>) -> u16 {
 }
 
 impl StateWords {
-    /// 0 throughout.
+    /// All words 0.
     pub fn fresh() -> StateWords {
         StateWords::of(&State::fresh())
     }
 
-    /// None where a place's numbers are no place.
+    /// None if the numbers of some place are not a place.
     pub fn state(&self) -> Option<State> {
         let mut places = [Place::Idle; THREAD_ROOM];
         for (thread, place) in places.iter_mut().enumerate() {

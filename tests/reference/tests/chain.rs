@@ -4,7 +4,7 @@ use reference::chain::{acts, chain, chain_words, Broken};
 use reference::table::*;
 use reference::words::{StateWords, TreeWords};
 
-/// A tree of so many threads in the root.
+/// A tree with this many threads in the root.
 fn root_alone(threads: usize, ticket_root: bool) -> Tree {
     Tree { domains: 1, threads, ticket_root, ..Tree::new() }
 }
@@ -23,7 +23,7 @@ fn after(tree: &Tree, start: u16, schedule: &[u16]) -> State {
     state
 }
 
-/// Thread 2 of three in Wait at the root.
+/// Three threads at the root, with thread 2 in Wait.
 fn third_waits() -> State {
     let mut state = State::fresh();
     state.places[2] = Place::Wait(0);

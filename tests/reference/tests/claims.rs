@@ -1,4 +1,4 @@
-//! What document 01's third demand and document 02 say of every run from fresh, for both kinds of root.
+//! What document 01's third demand and document 02 say about every run from fresh, for both kinds of root.
 
 use reference::draft::{random_draft, Size};
 use reference::random::Random;
@@ -8,20 +8,20 @@ use reference::standing::*;
 use reference::table::*;
 use std::collections::BTreeMap;
 
-/// A member that stands ungranted, and how often threads under each other member have entered since.
+/// An ungranted member, and how often the threads under each other member have entered since it became ungranted.
 struct Stander {
     member: usize,
     entries: BTreeMap<usize, u128>,
 }
 
-/// A lock with those who stand ungranted in each of its domains, in the order in which they began.
+/// A lock with the ungranted members of each domain, in the order in which they became ungranted.
 struct Followed {
     tree: Tree,
     state: State,
     standers: Vec<Vec<Stander>>,
 }
 
-/// What was met at one kind of root.
+/// What occurred at one kind of root.
 #[derive(Debug, Default)]
 struct Met {
     granted_at_root: u64,
@@ -75,7 +75,7 @@ impl Followed {
         self.state.places.iter().filter(|&&place| place == Place::Inside).count() <= 1
     }
 
-    /// Those who stand at a ticket root hold the tickets after the grant, one after another, and the counter is the one after the last.
+    /// The ungranted members at a ticket root hold the tickets right after the grant, in order. The ticket counter is the one after the last.
     fn tickets_follow(&self) -> bool {
         let State { ticket, grant, statuses, .. } = &self.state;
         let mut last = *grant;
@@ -112,7 +112,7 @@ fn one_inside_in_order_and_within_the_allowance() {
     }
 }
 
-/// Threads at home at a ticket root.
+/// A tree whose threads all have a ticket root as their home.
 fn root_alone(threads: usize) -> Tree {
     Tree { domains: 1, threads, ticket_root: true, ..Tree::new() }
 }
@@ -122,7 +122,7 @@ fn a_raise_ends_the_standing_of_all_whom_it_shows_their_ticket() {
     let tree = root_alone(6);
     let mut state = State::fresh();
     (state.ticket, state.grant) = (9, 65_535);
-    // 1, 3 and 4 watch with ticket 0; 2 has it and does not watch; 5 watches with the ticket that was drawn last.
+    // 1, 3 and 4 watch with ticket 0. 2 has it and does not watch. 5 watches with the ticket that was drawn last.
     state.places[..6].copy_from_slice(&[Place::Raise, Place::Watch, Place::Idle, Place::Watch, Place::Watch, Place::Watch]);
     state.statuses[..6].copy_from_slice(&[65_535, 0, 0, 0, 0, 8]);
     assert_eq!(standing(&tree, &state, 0), Standing { begins: None, ends: vec![1, 3, 4] });

@@ -1,4 +1,4 @@
-//! Cases of the refusals that the ladder does not have, and of what a refused call leaves as it came.
+//! Cases of the refusals that the ladder does not cover, and of what a refused call leaves unchanged.
 
 use reference::lock_file::{print, run_file, FileAnswer};
 use reference::refusals::*;
@@ -10,7 +10,7 @@ fn prints(file: &[u8], text: &str) {
     assert_eq!(String::from_utf8(print(file)).unwrap(), text);
 }
 
-/// Domains 1 and 2 under the root; threads 0 and 1 in 1, thread 2 in 2.
+/// Domains 1 and 2 under the root, threads 0 and 1 in domain 1, thread 2 in domain 2.
 fn tree() -> Tree {
     let mut tree = Tree::new();
     (tree.domains, tree.threads) = (3, 3);
@@ -82,11 +82,11 @@ fn homes() {
 
 #[test]
 fn domains_without_threads() {
-    // An empty leaf beside a full one; two empty leaves; an inner domain whose leaves are all empty.
+    // An empty leaf next to a full one. Two empty leaves. An inner domain whose leaves are all empty.
     prints(&[3, 0, 0, 1, 0, 1, 1], "refused 16 2\n");
     prints(&[4, 0, 0, 0, 1, 0, 1, 2], "refused 16 1\n");
     prints(&[5, 0, 0, 1, 1, 1, 1, 2, 0, 1, 2, 0], "refused 16 1\n");
-    // 8 and 9 come before, 10 and 12 after.
+    // 8 and 9 come before 16, and 10 and 12 after it.
     prints(&[3, 2, 0, 0, 0, 1, 0, 1, 1], "refused 8 1\n");
     prints(&[3, 0, 0, 2, 0, 1, 1, 1, 0], "refused 9 1\n");
     prints(&[3, 0, 0, 1, 0, 1, 1, 9, 0], "refused 16 2\n");
@@ -152,7 +152,7 @@ fn states_that_are_not_well_formed() {
     assert_eq!(step_refusal(|_, state| state.places[255] = Place::Prep(0)), ten);
 }
 
-/// With a ticket root; the change is made to the same tree.
+/// The refusal with a ticket root. The change is made to the same tree.
 fn ticket_refusal(change: impl Fn(&mut Tree, &mut State)) -> Option<(u32, u32)> {
     step_refusal(|tree, state| {
         tree.ticket_root = true;
@@ -167,11 +167,11 @@ fn well_formed_states_of_a_ticket_root() {
     }
     assert_eq!(ticket_refusal(|_, state| (state.ticket, state.grant) = (7, 40_000)), None);
     assert_eq!(ticket_refusal(|_, state| (state.places[0], state.statuses[257]) = (Place::Watch, 65_535)), None);
-    // A status that nobody watches is free, also above 65,535, and so is that of the thread's own record below the root.
+    // A status that nobody watches may be anything, even above 65,535. So may the status of the thread's own record below the root.
     assert_eq!(ticket_refusal(|_, state| state.statuses[257] = WAIT), None);
     assert_eq!(ticket_refusal(|_, state| (state.places[0], state.statuses[258]) = (Place::Watch, WAIT)), None);
     assert_eq!(ticket_refusal(|_, state| (state.places[0], state.statuses[0]) = (Place::Watch, WAIT)), None);
-    // Several watch with one ticket, and nobody is there to raise.
+    // Several threads watch with one ticket, and there is nobody to raise.
     assert_eq!(ticket_refusal(|_, state| state.places[..3].fill(Place::Watch)), None);
     assert_eq!(ticket_refusal(|_, state| (state.nexts[257], state.tails[1]) = (Some(258), Some(0))), None);
 }
@@ -196,7 +196,7 @@ fn states_that_the_kind_of_root_refuses() {
     assert_eq!(step_refusal(|_, state| (state.ticket, state.grant) = (65_535, 65_535)), ten);
 }
 
-/// Draw, Watch and Raise are at the root, and their numbers say no domain, record or word.
+/// Draw, Watch and Raise are at the root, and their numbers name no domain, record or word.
 #[test]
 fn numbers_of_the_ticket_places() {
     for (row, place) in [(11, Place::Draw), (12, Place::Watch), (13, Place::Raise)] {
@@ -209,7 +209,7 @@ fn numbers_of_the_ticket_places() {
     assert_eq!(PlaceWords { row: 14, ..PlaceWords::default() }.place(), None);
 }
 
-/// Both counters are the start at a ticket root; it is 0 at a queue root and where the call is refused.
+/// Both counters equal the start at a ticket root. They are 0 at a queue root, and if the call is refused.
 #[test]
 fn fresh_words_also_when_refused() {
     let mut tree = tree();
@@ -229,7 +229,7 @@ fn fresh_words_also_when_refused() {
     assert_eq!(counters(&tree, 7), (Some((5, 0)), 0, 0));
 }
 
-/// Any number but 0 names a ticket root, and a text never does.
+/// Any number except 0 means a ticket root, and a text never gives one.
 #[test]
 fn numbers_of_the_kind_of_root() {
     let mut words = read_text(b"(#1)").tree;
@@ -240,7 +240,7 @@ fn numbers_of_the_kind_of_root() {
     }
 }
 
-/// What no run from fresh reaches goes by the table: a counter after the grant, and a raise by a thread that did not enter.
+/// States that no run from fresh reaches follow the table: a ticket counter below the grant, and a raise by a thread that did not enter.
 #[test]
 fn ticket_rows_in_states_not_reached() {
     let mut tree = tree();
@@ -258,7 +258,7 @@ fn ticket_rows_in_states_not_reached() {
     assert_eq!((step(&tree, &mut state, 0), state.places[0]), (Kind::Move, Place::Raise));
 }
 
-/// States that no run from fresh reaches go by the table.
+/// States that no run from fresh reaches follow the table.
 #[test]
 fn rows_in_states_not_reached() {
     let (tree, mut state) = (tree(), State::fresh());

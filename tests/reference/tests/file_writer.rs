@@ -1,4 +1,4 @@
-//! Cases of writing the lock file: the printed example, defaults at their edges, kinds of root, the longest file, refusals in order.
+//! Cases of writing the lock file: the printed example, defaults at their edges, both kinds of root, the longest file, refusals in order.
 
 use reference::file_writer::write_file;
 use reference::lock_file::{FileAnswer, LONGEST_FILE};

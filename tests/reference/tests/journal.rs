@@ -1,4 +1,4 @@
-//! Cases of the check of a journal: entries and their defaults, each number and its place, their order.
+//! Cases of the check of a journal: entries and their defaults, each number and its place, and their order.
 
 use reference::journal::{check_journal, write_entry, JournalAnswer};
 use reference::text_tree::read_text;
@@ -60,7 +60,7 @@ fn defaults_are_left_out() {
     assert_eq!(journal, [2, 1, 1, 2, 1, 0, 3, 2, 1, 0]);
 }
 
-/// The sample beside its tree; at its last entry another kind.
+/// The sample with its tree, and the sample with another kind in its last entry.
 #[test]
 fn the_sample() {
     let tree = read_text(include_bytes!("../../../samples/printed-example.tree")).tree;

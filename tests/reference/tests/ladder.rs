@@ -1,4 +1,4 @@
-//! The cases of document 01's ladder on the step table, those as files through the file call; and of document 02's ticket root.
+//! The cases of document 01's ladder on the step table, with those given as files run through the file call. Also the cases of document 02's ticket root.
 
 use reference::draft::{random_draft, Draft, Size};
 use reference::lock_file::{print, read};
@@ -28,7 +28,7 @@ fn prints(file: &[u8], text: &str) {
     assert_eq!(String::from_utf8(print(file)).unwrap(), text);
 }
 
-/// A draft with these parents, thresholds 16 and homes, and an empty schedule.
+/// A draft with these parents and homes, all thresholds 16, and an empty schedule.
 fn draft(parents: Vec<u8>, homes: Vec<u8>) -> Draft {
     Draft {
         domains: parents.len() as u8,
@@ -218,7 +218,7 @@ fn two_members_of_a_ticket_root() {
 
 const TWO_LEVELS_TICKET: [u8; 9] = [130, 2, 2, 0, 2, 0, 1, 1, 0];
 
-/// 0 enters by a draw for its domain and passes to 1 at home; 1 raises, and then releases its home.
+/// 0 enters by a draw for its domain and passes to 1 at home. 1 raises, and then releases its home.
 fn two_levels_ticket_schedule() -> Vec<u16> {
     repeated(&[(0, 3), (1, 4), (0, 3), (1, 6)])
 }

@@ -1,5 +1,5 @@
-//! The longest wait against the step table: on random small trees of both kinds of root the entries in line of every attempt are at most W, whatever the schedule; where every
-//! entry is prompt, all entries of others are; and many threads wait that long.
+//! The longest wait against the step table, on random small trees with both kinds of root. The entries in line during every attempt are at most W, for any schedule. If every
+//! entry is prompt, all entries of others are at most W. Many threads do wait that long.
 
 use reference::bounds::wait_bounds;
 use reference::chain::chain;
@@ -10,7 +10,7 @@ use reference::table::*;
 use reference::tool::busy;
 use reference::words::TreeWords;
 
-/// Up to eight threads and four levels, thresholds 1 to 4.
+/// Up to eight threads and four levels, with thresholds 1 to 4.
 fn small_tree(random: &mut Random) -> Option<Tree> {
     let size = Size { domains: random.between(1, 6), threads: random.between(1, 8) };
     let mut tree = random_draft(random, size).tree();
@@ -20,7 +20,7 @@ fn small_tree(random: &mut Random) -> Option<Tree> {
     (small && accept_tree(&tree).is_ok()).then_some(tree)
 }
 
-/// What an attempt under way has waited for: entries in line, all entries of others, and whether all of these were prompt.
+/// What an attempt under way has waited for: entries in line, all entries of others, and whether all of those were prompt.
 #[derive(Clone, Copy)]
 struct Attempt {
     in_line: u64,
@@ -28,7 +28,7 @@ struct Attempt {
     prompt: bool,
 }
 
-/// A run, its attempts under way, and for each thread the most entries in line, and the longest wait for prompt entries alone.
+/// A run and its attempts under way. For each thread, the most entries in line, and the longest wait with only prompt entries.
 struct Waited<'a> {
     tree: &'a Tree,
     state: State,
@@ -55,12 +55,12 @@ impl Waited<'_> {
         (0..self.tree.threads).filter(move |&other| other != thread)
     }
 
-    /// Just before an entry every other thread is Idle or can only stay.
+    /// Whether, just before an entry, every other thread is Idle or can only stay.
     fn is_prompt(&self, thread: usize) -> bool {
         self.others(thread).all(|other| self.state.places[other] == Place::Idle || !self.can_move(other))
     }
 
-    /// Before the entry of a thread: every other attempt waits for it.
+    /// Called before a thread enters: every other attempt waits for this entry.
     fn count_entry(&mut self, thread: usize) {
         let prompt = self.is_prompt(thread);
         for other in self.others(thread) {
@@ -78,7 +78,7 @@ impl Waited<'_> {
         }
     }
 
-    /// An attempt begins with the Swap at home, or with the draw where that is a ticket root, and ends with the entry.
+    /// An attempt begins with the Swap at home, or with the draw if home is a ticket root. It ends with the entry.
     fn turn(&mut self, thread: usize) {
         let home = self.tree.home(thread);
         let begins = match self.state.places[thread] {
@@ -96,7 +96,7 @@ impl Waited<'_> {
         step(self.tree, &mut self.state, thread);
     }
 
-    /// A turn by chance of those that may have one: a thread enters only where that is prompt, or nobody else is left.
+    /// A random turn of a thread that can move. A thread enters only if the entry is prompt, or if no other thread can move.
     fn prompt_turn(&mut self, random: &mut Random) {
         let moves: Vec<usize> = (0..self.tree.threads).filter(|&thread| self.can_move(thread)).collect();
         let fit: Vec<usize> = moves.iter().copied().filter(|&thread| !self.kind(thread).is_entry() || self.is_prompt(thread)).collect();

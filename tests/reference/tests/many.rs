@@ -1,4 +1,4 @@
-//! Cases of many schedules in one call: rows in order, refusals of the whole call and of one row, buffers.
+//! Cases of many schedules in one call: rows in order, refusals of the whole call and of one row, and buffers.
 
 use reference::many::run_many;
 use reference::words::TreeWords;

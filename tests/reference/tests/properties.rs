@@ -1,4 +1,4 @@
-//! What document 01 says of single steps, on random states that a caller may hand in.
+//! What document 01 says about single steps, on random states that a caller may pass.
 
 use reference::counters::first_past;
 use reference::random::Random;
@@ -8,7 +8,7 @@ use reference::refusals::{well_formed, words_well_formed};
 use reference::table::*;
 use reference::words::*;
 
-/// Each random tree with a random well-formed state and a thread.
+/// Checks random trees, each with a random well-formed state and a thread.
 fn each(check: impl Fn(&Tree, &State, usize)) {
     let mut random = Random::new(1);
     for _ in 0..5000 {

@@ -1,4 +1,4 @@
-//! Cases of the rate: rates that other orders of rounding would miss, and each refusal at its place.
+//! Cases of the rate: rates that another order of rounding would get wrong, and each refusal at its place.
 
 use reference::rate::{rate, PassingTimes};
 

@@ -1,4 +1,4 @@
-//! Document 02, (vii): entries, tenures and the longest tenure of each domain, by hand, against the steps, and from fresh; refusals 10 and 19 by counters.
+//! Document 02, (vii): entries, tenures and the longest tenure of each domain, computed by hand, from the steps, and from fresh. Also refusals 10 and 19 for counters.
 
 use reference::chain::is_on_path;
 use reference::counters::{first_past, first_past_by_steps, Counters, MOST_COUNTED};
@@ -15,7 +15,7 @@ use reference::words::{StateWords, TreeWords};
 
 const PRINTED: [u16; 22] = [0, 0, 0, 0, 1, 1, 1, 1, 0, 0, 0, 1, 2, 2, 2, 2, 2, 1, 1, 1, 1, 2];
 
-/// The root's parent and threshold stand first.
+/// The root's parent and threshold come first.
 fn tree(parents: &[u8], thresholds: &[u16], homes: &[u8], ticket_root: bool) -> Tree {
     let mut tree = Tree { domains: parents.len(), threads: homes.len(), ticket_root, ..Tree::new() };
     tree.parents[..parents.len()].copy_from_slice(parents);
@@ -41,14 +41,14 @@ fn printed_example() {
     let tree = printed_tree();
     run(&tree, &mut state, PRINTED[..9].iter().copied(), &mut Vec::new());
     assert_eq!((state.counters.of(0), state.counters.of(1), state.counters.of(2)), ([0; 3], [1, 1, 1], [0; 3]));
-    // the Check that passes tells the length before its Grant is taken and before thread 1 enters
+    // the passing Check sets the length before its Grant is taken and before thread 1 enters
     step(&tree, &mut state, 0);
     assert_eq!(state.counters.of(1), [1, 1, 2]);
     run(&tree, &mut state, PRINTED[10..].iter().copied(), &mut Vec::new());
     assert_eq!((state.counters.of(0), state.counters.of(1), state.counters.of(2)), ([0; 3], [2, 1, 2], [1, 1, 1]));
 }
 
-/// The threshold keeps thread 0 from passing, and thread 1 gets ACQUIRE_PARENT: no tenure starts with that, but with the leaf's next Swap at the root.
+/// The threshold keeps thread 0 from passing, and thread 1 gets ACQUIRE_PARENT. This starts no tenure. The leaf's next Swap at the root does.
 #[test]
 fn acquire_parent_to_a_thread() {
     let tree = tree(&[0, 0], &[0, 1], &[1, 1], false);
@@ -57,7 +57,7 @@ fn acquire_parent_to_a_thread() {
     assert_eq!(after(&tree, 0, &[&granted[..], &[(1, 3)]].concat()).of(1), [2, 2, 1]);
 }
 
-/// Domain 1 has the leaves 2 and 3. The Grant of ACQUIRE_PARENT to domain 3's record starts a tenure of domain 3, and none of domain 1.
+/// Domain 1 has the leaves 2 and 3. Granting ACQUIRE_PARENT to domain 3's record starts a tenure of domain 3, and none of domain 1.
 #[test]
 fn acquire_parent_to_a_domain() {
     let tree = tree(&[0, 0, 1, 1], &[0, 1, 1, 1], &[2, 3], false);
@@ -70,7 +70,7 @@ fn acquire_parent_to_a_domain() {
     assert_eq!((entered.of(1), entered.of(2), entered.of(3)), ([2, 2, 1], [1, 1, 1], [1, 1, 1]));
 }
 
-/// An inner domain's tenure grows by its own Checks alone, a leaf's by its own.
+/// An inner domain's tenure becomes longer only by its own Checks, and so does a leaf's.
 #[test]
 fn a_pass_between_leaves() {
     let tree = tree(&[0, 0, 1, 1], &[0, 2, 2, 2], &[2, 3], false);
@@ -88,7 +88,7 @@ fn draws_and_raises() {
     assert_eq!(after(&tree, 65_535, &[&watching[..], &[(0, 1), (1, 1)]].concat()).of(2), [1, 1, 1]);
 }
 
-/// A raise that shows one ticket to several: one tenure for each child, however many of its threads watch, and none where nobody watches.
+/// A raise that shows one ticket to several members: each child starts one tenure, however many of its threads watch, and none if nobody watches.
 #[test]
 fn a_raise_for_several() {
     let tree = tree(&[0, 0, 0, 0], &[0, 2, 2, 2], &[1, 1, 2, 3, 1], true);
@@ -100,7 +100,7 @@ fn a_raise_for_several() {
     assert_eq!((state.counters.of(1), state.counters.of(2), state.counters.of(3)), ([0, 1, 1], [0, 1, 1], [0; 3]));
 }
 
-/// Nothing is counted where the root is home.
+/// Nothing is counted if the root is home.
 #[test]
 fn the_root_alone() {
     for ticket_root in [false, true] {
@@ -109,7 +109,7 @@ fn the_root_alone() {
     }
 }
 
-/// What a step counts of a domain, told by the places before and after it and by who stands ungranted: entries, tenures and a length.
+/// What a step counts for a domain, derived from the places before and after it and from the ungranted members: entries, tenures and a length.
 fn told(tree: &Tree, before: &State, after: &State, thread: usize, domain: usize) -> [u64; 3] {
     let record = domain_record(domain);
     let mut given = standing(tree, before, thread).ends;
@@ -210,7 +210,7 @@ fn counters_that_10_refuses() {
     assert_eq!(refusal(&|counters| counters.tenures[2] = u64::MAX), ten);
 }
 
-/// The printed example with counters about 2^63, at each of which the first step that would push one past it has another position.
+/// The printed example with counters around 2^63. The first step that would push a counter past it is at a different position each time.
 #[test]
 fn positions_of_19() {
     let refusal = |change: &dyn Fn(&mut Counters)| {
@@ -230,7 +230,7 @@ fn positions_of_19() {
     assert_eq!(refusal(&|counters| counters.entries[2] = MOST_COUNTED), Some((19, 21)));
 }
 
-/// 19 of a single step has place 0; 10, 12, 13 and 18 come before it.
+/// For a single step, 19 has place 0. 10, 12, 13 and 18 come before it.
 #[test]
 fn order_of_19() {
     let (tree, mut state) = (printed_tree(), State::fresh());
@@ -252,7 +252,7 @@ fn order_of_19() {
     assert_eq!((waits(1, 19), waits(2, 19), waits(2, 20)), ((13, 0), (18, 0), (19, 1)));
 }
 
-/// The short way, which takes no step where there is room for the schedule, says what the steps say.
+/// The short way takes no step if every counter is below 2^63 by at least the schedule's length. It agrees with the steps.
 #[test]
 fn room_for_the_schedule() {
     let mut random = Random::new(1);

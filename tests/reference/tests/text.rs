@@ -1,4 +1,4 @@
-//! The cases of document 02's request (i), on the reference's reader.
+//! The cases of document 02's request (i), for the reference's reader.
 
 use reference::text_tree::{read_text, TextAnswer};
 use reference::words::TreeWords;
@@ -14,7 +14,7 @@ fn refused(text: &str, number: u32, place: usize) {
     assert_eq!((domains, threads, parents, thresholds, homes, ticket_root), (0, 0, [0; 64], [0; 64], [0; 256], 0), "{text}");
 }
 
-/// The words of the tree's domains and threads, without the room after them.
+/// The words of the tree's domains and threads, without the unused slots after them.
 fn accepted(text: &str, parents: &[u8], thresholds: &[u16], homes: &[u8]) {
     let answer = read(text);
     assert_eq!((answer.number, answer.place), (0, 0), "{text}");

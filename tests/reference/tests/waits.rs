@@ -1,4 +1,4 @@
-//! Cases of waits, the rows by hand: both kinds of root, attempts that the run does not hold whole, means that reduce, refusals.
+//! Cases of waits, with rows computed by hand: both kinds of root, attempts only partly within the run, means that reduce, refusals.
 
 use reference::table::State;
 use reference::waits::{run_waits, run_waits_on};
@@ -54,7 +54,7 @@ fn refusals_leave_everything() {
     }
 }
 
-/// Rows of a run from the state that another one leads to, with the numbers of its attempts under way, and the numbers after it.
+/// The rows of a run from the state that another run leads to, with the numbers of its attempts under way. Also the numbers after the run.
 fn goes_on(ticket_root: u32, before: &[u16], schedule: &[u16], numbers: [u64; 2]) -> (Vec<u64>, [u64; 2]) {
     let tree = two_in_root(ticket_root);
     let fresh = StateWords::of(&State::fresh());
@@ -71,11 +71,11 @@ fn goes_on(ticket_root: u32, before: &[u16], schedule: &[u16], numbers: [u64; 2]
 fn attempts_under_way() {
     let none = [0; 5];
     let waited = |wait: u64| [1, wait, wait, wait, 1];
-    // thread 1 waits since before the run: it finishes, it goes on, and with 0 it is not known
+    // thread 1 has waited since before the run: it finishes, it continues, and with 0 its wait is unknown
     assert_eq!(goes_on(0, &[0, 0, 1, 1, 1], &[0, 0, 0, 1], [0, 8]), ([none, waited(7), waited(7)].concat(), [0, 0]));
     assert_eq!(goes_on(0, &[0, 0, 1, 1, 1], &[0], [0, 8]), ([none; 3].concat(), [0, 8]));
     assert_eq!(goes_on(0, &[0, 0, 1, 1, 1], &[0, 0, 0, 1], [0, 0]), ([none; 3].concat(), [0, 0]));
-    // attempts that begin within the run, without and with another thread's entry since
+    // attempts that begin within the run, without and with an entry of another thread since
     assert_eq!(goes_on(1, &[], &[0, 1, 0, 0, 0], [0, 0]).1, [1, 1]);
     assert_eq!(goes_on(1, &[], &[0, 1, 0, 0, 0, 1], [0, 0]).1, [2, 0]);
 }

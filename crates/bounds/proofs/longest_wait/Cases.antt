@@ -74,7 +74,7 @@ example-holds : equation-19 3 4 2 2 3 ≡ 32
 unfolding rounded-up equation-19
 example-holds = refl
 
--- WHAT PASSES IS AN ATTEMPT
+-- A LIST THAT PASSES IS AN ATTEMPT
 thread-there : (t : Tree) (xs : List ℕ) (i : ℕ) (ys : List ℕ) → All-threads t (xs ++ (i ∷ ys)) → i < t .threads
 unfolding All-threads
 thread-there t [] i ys h = h .0

@@ -1,4 +1,4 @@
--- Where a chain ends: at the thread that enters, it has gone through all who stand before in the queue, each linked to the one before it, and on from the one who acts for the first.
+-- Where a chain ends: if it ends at the entering thread, it contains all members ahead in the queue, each linked to the one before it, and continues from the thread that acts for the first.
 use mathlib.Core.Path.{_≡_, refl, sym, ap, _∙_}
 use mathlib.Core.Bool.{true, false, false≢true}
 use mathlib.Core.List.{List, [], _∷_, _++_, head-eq-of-cons-eq}
@@ -52,7 +52,7 @@ ends-last x i [] = refl
 ends-last x i (a ∷ []) = refl
 ends-last x i (a ∷ b ∷ bs) = ends-last x i (b ∷ bs)
 
--- a thread that stands does not get Inside by one step
+-- a thread that stands is not Inside after one step
 not-from-queued : (j : ℕ) (y : Stage) → y ≡ inside → Leads (queued j) y → ⊥
 unfolding tag
 not-from-queued j y e same = let o = ap tag e in omega arith
@@ -70,7 +70,7 @@ module _ (t : Tree) (valid : Accepted t) (bits : Sixteen-bit t) (c : Situation t
   abbrev pub Enters : (thread : ℕ) → Type 0
   Enters x = is-entry (step t x s .kind) ≡ true
 
-  -- it is one of the moves that the step is, so it was still to come, and the thread is inside after it
+  -- the entry is one of the step's moves, so it was pending, and the thread is inside after it
   entry-made : (x : ℕ) (h : x < t .threads) → Enters x → (moves.pending (g .stage x) ≡ 1) × (queues (situations.next t valid bits c x h) .stage x ≡ inside)
   unfolding step situations.next queued-after hit
   entry-made x h e =
@@ -82,7 +82,7 @@ module _ (t : Tree) (valid : Accepted t) (bits : Sixteen-bit t) (c : Situation t
   pub entry-inside : (x : ℕ) (h : x < t .threads) → Enters x → queues (situations.next t valid bits c x h) .stage x ≡ inside
   entry-inside x h e = entry-made x h e .1
 
-  -- its entry is still to come
+  -- the entry was pending
   pub enters-pending : (x : ℕ) → x < t .threads → Enters x → moves.pending (g .stage x) ≡ 1
   enters-pending x h e = entry-made x h e .0
 
@@ -112,7 +112,7 @@ module _ (t : Tree) (valid : Accepted t) (bits : Sixteen-bit t) (c : Situation t
   chain-ends i x h e =
       chain-on-ends x (chain-law t s i h .found (λ z. let y : ends-at x [] ≡ true = rw z at e in false≢true y)) h [] refl e
 
-  -- a stay is of one who stands, or of one who lingers
+  -- a thread whose step is a stay stands or lingers
   stay-stage : (i : ℕ) → i < t .threads → stays t s i ≡ true → ((k : ℕ) × (g .stage i ≡ queued k)) ⊎ ((l : ℕ) × (place s i ≡ Linger l) × (5 ≤ tag (g .stage i)))
   unfolding Says
   stay-stage i h still = by (place s i) refl (stay-waits t valid bits s (c .queued) i h still)
@@ -130,7 +130,7 @@ module _ (t : Tree) (valid : Accepted t) (bits : Sixteen-bit t) (c : Situation t
   link-ends j l r x h e f (here _ still) = let y = says t valid c j h (Link l r) e in queued-enters j (y .0) h (y .2) f
   link-ends j l r x h e f (onward _ k _ still look more) = false≢true (sym (stays-at t s j (Link l r) e ∙ moves-on t s j (Link l r) refl) ∙ still)
 
-  -- the chain of a thread that does not stand ends at it, where its end enters
+  -- if the end of the chain enters, the chain of a thread that does not stand ends at that thread
   pub own-end : (b x : ℕ) → b < t .threads → Enters x → tag (g .stage b) ≢ 2 → Ends b x → x ≡ b
   unfolding tag looked-to
   own-end b x h f n (here _ still) = refl
@@ -143,7 +143,7 @@ module _ (t : Tree) (valid : Accepted t) (bits : Sixteen-bit t) (c : Situation t
             absurd (link-ends j (y .0) (own-record t b l) x (look .real) (y .1) f more))
       ]
 
-  -- who stands before, with the end of the chain
+  -- the members ahead, with the end of the chain
   abbrev pub Line-ends : (i j x : ℕ) → Type 0
   Line-ends i j x = Lined t valid bits c (λ a. Ends a x) i j
 

@@ -1,4 +1,4 @@
--- On three equal levels, where no threshold is below its number of members, W is what equation 18 allows.
+-- On three equal levels, if no threshold is below its number of members, W is what equation 18 allows.
 use mathlib.Core.Path.{_≡_, sym, ap, _∙_}
 use Prim.Native.Nat.{ℕ, zero, suc, _+_, _*_, _-_, _/_, _≤_, _<_}
 use native.Mathlib.Omega.{arith}
@@ -17,7 +17,7 @@ use Rattle.bounds.specs.LongestWait.Laws.{Equal-levels, equation-18, Equ
 use Rattle.bounds.proofs.longest_wait.Waits.{above-wait, above-root, wait-at, above-next}
 use Rattle.bounds.proofs.longest_wait.Even.{top, deep, same-many, has-members, P, others-at}
 
--- one tenure is enough where the threshold is not below the number of members
+-- one tenure is enough if the threshold is not below the number of members
 one-tenure-enough : (m v : ℕ) → 1 ≤ m → m ≤ v → (m + v - 1) / v ≡ 1
 one-tenure-enough m v h l =
     let some : 0 < v = omega arith in
@@ -25,7 +25,7 @@ one-tenure-enough m v h l =
     let high : (m + v - 1) / v < 2 = div-lt-iff-lt-mul some .1 (omega arith) in
     omega arith
 
--- THE SUM, with d = h k - a b and x = h - a, and b and c one more
+-- THE SUM, with d = h k - a b and x = h - a; b and c are written suc b and suc c
 sums-same : (a b c h k d x : ℕ) → 1 ≤ a → h * k ≡ a * suc b + d → h ≡ a + x → (a - 1) + b * h + c * (k * h) + 1 ≡ a * suc b * suc c + d * c + x * b
 sums-same a b c h k d x some e f =
     let one : c * (k * h) ≡ (a * suc b + d) * c = (let z : c * (k * h) ≡ (h * k) * c = omega arith in z ∙ ap (λ v. v * c) e) in
@@ -74,7 +74,7 @@ module _ (t : Tree) (ok : tree-refusal t .number ≡ 0) (equal : Equal-levels t)
 
   module _ (homes : 2 ≤ members t (ancestor t i 0)) (sockets : 2 ≤ members t (ancestor t i 1)) (wide-home : members t (ancestor t i 0) ≤ t .threshold (ancestor t i 0))
       (wide-socket : members t (ancestor t i 1) ≤ t .threshold (ancestor t i 1)) where
-    -- no domain but the root has one member
+    -- every domain other than the root has at least two members
     many : (d : ℕ) → 0 < d → d < t .domains → 2 ≤ members t d
     many d p h =
         let below = deep t ok equal i hi d h in

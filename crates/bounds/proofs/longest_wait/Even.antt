@@ -1,4 +1,4 @@
--- In an even tree all members of a level have the same passes and the same number of threads under them; so W is the number of the other threads.
+-- In an even tree all members of a level have the same passes and the same number of threads under them; so W is the number of other threads.
 use mathlib.Core.Path.{_≡_, refl, sym, ap, _∙_}
 use mathlib.Core.Bool.{Bool, true, false, _&&_, not, cond}
 use Prim.Native.Nat.{ℕ, zero, suc, _+_, _*_, _≤_, _<_}
@@ -92,7 +92,7 @@ module _ (t : Tree) (ok : tree-refusal t .number ≡ 0) (equal : Equal-levels t)
   unfolding height
   home-depth j = refl
 
-  -- thresholds have their effect
+  -- every threshold is effective
   abbrev pub Have-effect : Type 0
   Have-effect = (d : ℕ) → 0 < d → d < t .domains → effective-threshold t d ≡ t .threshold d
 
@@ -110,7 +110,7 @@ module _ (t : Tree) (ok : tree-refusal t .number ≡ 0) (equal : Equal-levels t)
   some-passes zero l = omega arith
   some-passes (suc k) l = one-le-mul (valid .threshold-some (ancestor t i k) (ancestor-inner t valid i hi k l) (ancestor-real t valid i hi k)) (some-passes k (omega arith))
 
-  -- a domain whose members have so many passes
+  -- a domain whose members all have this number of passes
   most-at : (k c : ℕ) → c < t .domains → k ≤ top → ((q : ℕ) → is-member t c q ≡ true → passes t q ≡ P k) → member-allowance (effective t) c ≡ P k
   unfolding passes member-allowance effective is-child
   most-at k c h l each =
@@ -148,7 +148,7 @@ module _ (t : Tree) (ok : tree-refusal t .number ≡ 0) (equal : Equal-levels t)
           ∙ ap (λ v. v * member-allowance (effective t) c) (effective-there t c ∙ effect c p u ∙ same-threshold k c p u there)
           ∙ ap (λ v. t .threshold (ancestor t i k) * v) (most-at k c u (omega arith) (λ r n. rec c u there r n))
 
-  -- W's own sum
+  -- the passes of the other members, as in the sum of W
   pub others-at : Have-effect → (k : ℕ) → k ≤ top → others-passes t (ancestor t i k) (record-at t i k) + P k ≡ members t (ancestor t i k) * P k
   unfolding others-passes members top
   others-at effect k l =

@@ -1,4 +1,4 @@
--- In an even tree W is the number of the other threads: the threads of the tree, counted level by level, and the sums of W.
+-- In an even tree W is the number of other threads: the threads of the tree, counted level by level, and the sums of W.
 use mathlib.Core.Path.{_≡_, refl, sym, ap, _∙_}
 use mathlib.Core.Bool.{Bool, true, false, cond, true≢false}
 use Prim.Native.Nat.{ℕ, zero, suc, _+_, _*_, _-_, _/_, _≤_, _<_}
@@ -38,7 +38,7 @@ module _ (t : Tree) (ok : tree-refusal t .number ≡ 0) (even : Even t) (i : ℕ
   valid : Accepted t
   valid = accepted t ok
 
-  -- thresholds that divide have their effect
+  -- thresholds that divide are effective
   effective-same : (d : ℕ) → 0 < d → d < t .domains → effective-threshold t d ≡ t .threshold d
   unfolding effective-threshold
   effective-same d p h =
@@ -65,7 +65,7 @@ module _ (t : Tree) (ok : tree-refusal t .number ≡ 0) (even : Even t) (i : ℕ
   abbrev threads-under : (domain : ℕ) → ℕ
   threads-under d = sum-below (t .threads) (λ j. one-if (on-path t j d))
 
-  -- where a thread's path meets a domain
+  -- the index at which a thread's path meets a domain
   index-there : (j d : ℕ) (h : j < t .threads) → on-path t j d ≡ true → (k : ℕ) × (k ≤ height t j) × (ancestor t j k ≡ d) × (depth t d + k ≡ H)
   index-there j d h e =
       let y = path-index t valid j h d e in
@@ -197,7 +197,7 @@ module _ (t : Tree) (ok : tree-refusal t .number ≡ 0) (even : Even t) (i : ℕ
   abbrev n : ℕ → ℕ
   n = N t ok (even .levels) i hi
 
-  -- a threshold that divides: as many tenures as the quotient
+  -- if the threshold divides, there are as many tenures as the quotient
   exact-quotient : (m v q : ℕ) → 0 < v → q * v ≡ m → (m + v - 1) / v ≡ q
   exact-quotient m v q h e =
       let low : q ≤ (m + v - 1) / v = le-div-iff-mul-le h .1 (omega arith) in

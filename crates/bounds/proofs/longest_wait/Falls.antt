@@ -1,4 +1,4 @@
--- One step leaves no more to see in line, and an entry in line leaves less: where whoever is first has the lock.
+-- One step does not increase the entries still possible in line, and an entry in line decreases them: if the first in the queue has the lock.
 use mathlib.Core.Path.{_≡_, refl, sym, ap, _∙_}
 use mathlib.Core.List.{List, [], _∷_}
 use Prim.Native.Nat.{ℕ, suc, _+_, _*_, _/_, _≤_, _<_}
@@ -30,7 +30,7 @@ use Rattle.bounds.proofs.starvation_freedom.Waiting.{Woken}
 use Rattle.bounds.proofs.starvation_freedom.Held.{Held, Given, own-domain, domain, Turned, own-lock, lock, given, Held-on, still, turned, same-tally, held-step}
 use Rattle.bounds.proofs.longest_wait.Owes.{Sound, sound-next, W, tenures-left, held-left, Owes, free, climbs, held, waits}
 
--- what a step leaves, with the entries in line that it made
+-- what is left after a step, with the entries in line that it made
 pub record Owed (t : Tree) (valid : Accepted t) (bits : Sixteen-bit t) (c : Situation t) (i n f : ℕ) : Type 0 where
   pub left : ℕ
   pub owes : Owes t valid bits c i left
@@ -56,20 +56,20 @@ module _ (t : Tree) (valid : Accepted t) (bits : Sixteen-bit t) (c : Situation t
   ch = next-change t valid bits c x hx
 
   module _ (i j r b k : ℕ) (xs : List ℕ) (L : Line t valid bits c i j r b k xs) where
-    -- the same line, where b stays first
+    -- the same line, if b stays first
     pub itself-kept : k < low (height t b) (g′ .stage b) → Line t valid bits c′ i j r b k xs
     itself-kept h = line-kept t valid bits c x hx i j r b k xs L b k h refl refl
 
-    -- what is left under the first, less an entry of its own
+    -- what is left under the first, minus its own entry
     pub rest-less : k < low (height t b) (g′ .stage b) → left-there t valid g′ b k + hits t ch b ≤ left-there t valid g b k
     rest-less h = left-less t valid ch inv (sound .within) b k b k (record { before = L .first-there; after = h; there = refl; mine = refl })
 
-  -- NO ENTRY IN LINE: where the next comes first
+  -- NO ENTRY IN LINE, and the next member becomes first
   module _ (i j r b k v n : ℕ) where
     abbrev top : ℕ
     top = ancestor t i j
 
-    -- under the next, at most its passes
+    -- at most its passes are left under the next member
     rest-new : (m s l : ℕ) (ms : List ℕ) → Line t valid bits c′ i j m s l ms → left-there t valid g′ s l ≤ passes t m
     rest-new m s l ms L′ =
         let h = L′ .first-there in
@@ -123,7 +123,7 @@ module _ (t : Tree) (valid : Accepted t) (bits : Sixteen-bit t) (c : Situation t
             record { left = held-left t valid bits c′ i j b′ k′ v xs; owes = held i j r b′ k′ v (held-left t valid bits c′ i j b′ k′ v xs) xs H′ (omega arith); less = omega arith }
         by (turned y) = turned-result i j r b k v n xs H bound y
 
-    -- its own entry
+    -- the first enters
     pub held-enters : x ≡ b → Enters t valid bits c x → Owed t valid bits c′ i n 1
     unfolding tag low pending
     held-enters z f =

@@ -1,4 +1,4 @@
--- The wait-bound law: along an attempt what may still be seen in line falls with every entry in line, and at its beginning it is W.
+-- The wait-bound law: along an attempt, the entries still possible in line decrease with every entry in line, and at its beginning they are W.
 use mathlib.Core.Path.{_≡_, refl, sym, ap, _∙_}
 use mathlib.Core.Bool.{Bool, true, false, _&&_, not, cond, false≢true}
 use mathlib.Core.List.{List, [], _∷_, _++_, nil≢cons, head-eq-of-cons-eq, tail-eq-of-cons-eq}
@@ -49,7 +49,7 @@ use Rattle.bounds.proofs.longest_wait.Falls.{Owed}
 use Rattle.bounds.proofs.longest_wait.Steps.{Counts, none, one, owes-step}
 use Rattle.bounds.proofs.longest_wait.Prompt.{later-none, either-way, prompt-ends}
 
--- a test that counts nothing fails
+-- if nothing is counted, the test fails
 not-counted : (b : Bool) (m : ℕ) → cond b 1 0 + m ≡ 0 → (b ≡ false) × (m ≡ 0)
 not-counted false m e = (refl, omega arith)
 not-counted true m e = absurd (omega arith)
@@ -63,7 +63,7 @@ module _ (t : Tree) (ok : tree-refusal t .number ≡ 0) (bits : Sixteen-bit t) w
   unfolding step
   stepped c a h = next-words t valid bits c a h
 
-  -- ALONG A SCHEDULE: a situation with what holds besides
+  -- ALONG A SCHEDULE: a situation that is sound
   record Along : Type 0 where
     now : Situation t
     sound : Sound t valid bits now
@@ -85,7 +85,7 @@ module _ (t : Tree) (ok : tree-refusal t .number ≡ 0) (bits : Sixteen-bit t) w
   unfolding begin
   begin-words start = refl
 
-  -- up to a step of the schedule
+  -- the situation before a step of the schedule
   record At (x : Step) (ms : List Step) : Type 0 where
     here : Along
     thread : ℕ
@@ -111,7 +111,7 @@ module _ (t : Tree) (ok : tree-refusal t .number ≡ 0) (bits : Sixteen-bit t) w
     unfolding Staged
     inside-place c z = staged t valid c i hi inside z
 
-    -- who may still see entries is on its way: neither Idle nor Inside
+    -- a thread with such a bound is neither Idle nor Inside
     owes-way : (c : Situation t) (n : ℕ) → Owes t valid bits c i n → (1 ≤ tag (queues c .stage i)) × (tag (queues c .stage i) ≤ 3)
     unfolding tag
     owes-way c n (owes.free _ _ e) = rw e (omega arith, omega arith)
@@ -220,14 +220,14 @@ module _ (t : Tree) (ok : tree-refusal t .number ≡ 0) (bits : Sixteen-bit t) w
       abbrev to : Situation t
       to = situations.next t valid bits from i h
 
-      -- from its home on
+      -- from a thread about to join at home
       climbed : queues from .stage i ≡ climb 0 → Owed t valid bits to i (W t valid bits i 0) 0
       unfolding tag
       climbed e =
           let there = not-inside from i h (way-not-inside from (rw e (omega arith))) (λ _. quiet) in
           owes-step t valid bits from (s .sound) i h i (W t valid bits i 0) 0 hi (owes.climbs i 0 (W t valid bits i 0) e (omega arith)) none (λ q. there (inside-place to q))
 
-      -- Idle's own draw
+      -- from a draw in Idle
       drawn : place (from .words) i ≡ Idle → 0 ≡ height t i → From-idle t i (place (to .words) i) → Owed t valid bits to i (W t valid bits i 0) 0
       unfolding Says
       drawn e top (to-swap z) =
@@ -282,7 +282,7 @@ module _ (t : Tree) (ok : tree-refusal t .number ≡ 0) (bits : Sixteen-bit t) w
     unfolding wait-bound
     bound-is = rw (ancestor-home t i, record-own t i) refl
 
-    -- AN ATTEMPT, from where it begins
+    -- AN ATTEMPT, from its first step
     attempt : (x : Step) (meanwhile later : List Step) → At x (meanwhile ++ later) → begins-attempt t i x ≡ true → occurrences i (entering (x ∷ meanwhile)) ≡ 0 → Bounded-wait t i x meanwhile
     unfolding begins-attempt step
     attempt x meanwhile later at begun o =

@@ -1,4 +1,4 @@
--- Passes by members, W from a domain to its parent, and the fewest tenures.
+-- Passes by members, W from a domain to its parent, and the smallest number of tenures.
 use mathlib.Core.Path.{_≡_, refl, sym, ap, _∙_}
 use mathlib.Core.Bool.{Bool, true, false, cond}
 use Prim.Native.Nat.{ℕ, suc, _+_, _*_, _-_, _/_, _≤_, _<_}

@@ -1,4 +1,4 @@
--- How many entries a thread may still see in line: so many at most, by the members before it in its queue, by whoever is first there, and by what that one in turn may still see.
+-- How many entries in line are still possible for a thread, at most: by the members ahead of it in its queue, by the first there, and by what is still possible for the first in turn.
 use mathlib.Core.Path.{_≡_, refl, ap, _∙_}
 use mathlib.Core.List.{List, _∷_}
 use mathlib.Core.Logic.{inl, inr}
@@ -27,7 +27,7 @@ use Rattle.bounds.proofs.starvation_freedom.Held.{Held}
 use Rattle.bounds.proofs.starvation_freedom.Lines.{low-real, stands-real, climbs-real, weight-before, short-before}
 
 module _ (t : Tree) (valid : Accepted t) (bits : Sixteen-bit t) where
-  -- what holds along a run besides: counts within the effective thresholds, and 1 on the way up
+  -- what also holds along a run: counts are at most the effective thresholds, and 1 while a thread is acquiring
   pub record Sound (c : Situation t) : Type 0 where
     pub within : Inv (effective t) (queues c)
     pub ones : Ones t (queues c)
@@ -42,7 +42,7 @@ module _ (t : Tree) (valid : Accepted t) (bits : Sixteen-bit t) where
   abbrev pub W : (thread index : ℕ) → ℕ
   W i j = member-wait t (ancestor t i j) (record-at t i j)
 
-  -- the tenures that the count of the first and the members before need, times what is above
+  -- the tenures that the count of the first and the members ahead need, times W of the domain above
   abbrev pub tenures-left : (domain count before : ℕ) → ℕ
   tenures-left d v n = ((v + n) / t .threshold d) * above-wait t d
 
@@ -70,7 +70,7 @@ module _ (t : Tree) (valid : Accepted t) (bits : Sixteen-bit t) where
       inv : Inv t g
       inv = c .queued .represents .invariant
 
-      -- what is before is at most the others' passes
+      -- the passes of the members ahead are at most those of all other members
       unfolding-weight : weight (passes t) (r ∷ xs) ≡ passes t r + weight (passes t) xs
       unfolding weight
       unfolding-weight = refl
@@ -85,7 +85,7 @@ module _ (t : Tree) (valid : Accepted t) (bits : Sixteen-bit t) where
       pub wait-there : W i j ≡ others-passes t d (record-at t i j) + tenures-for-all t d * above-wait t d
       wait-there = let real = stands-real t valid bits c i j (L .stage) in wait-at t valid d (record-at t i j) (ancestor-real t valid i (real .0) j)
 
-      -- THE FIRST HAS THE LOCK: so much at most
+      -- THE FIRST HAS THE LOCK: at most W is left
       pub held-enough : 3 ≤ tag (g .stage b) → (v : ℕ) × Held t valid bits c i j r b k v xs × (held-left i j b k v xs ≤ W i j)
       held-enough lock =
           let real = stands-real t valid bits c i j (L .stage) in
@@ -108,7 +108,7 @@ module _ (t : Tree) (valid : Accepted t) (bits : Sixteen-bit t) where
             omega (arith, before-enough, wait-there, tenures-enough t valid d (length xs) (omega arith) (ancestor-real t valid i (real .0) j) (omega (arith, short-before t valid bits c i j r b k xs L))),
           ))
 
-      -- THE FIRST IS ON ITS WAY UP: so much at most, with W where it is
+      -- THE FIRST IS ACQUIRING: with what is left for it, at most W is left
       pub waits-enough : tag (g .stage b) ≤ 2 → (u : ℕ) × Owes b u × (held-left i j b k 1 xs + u ≤ W i j)
       waits-enough way =
           let way-there = on-way (height t b) k (g .stage b) way (L .first-there) in

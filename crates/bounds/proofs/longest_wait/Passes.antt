@@ -20,7 +20,7 @@ use Rattle.bounds.proofs.starvation_freedom.Fewer.{fewer-passes}
 use Rattle.bounds.proofs.starvation_freedom.Effective.{effective-accepted, same-move}
 
 module _ (t : Tree) (valid : Accepted t) where
-  -- THE SAME RUNS
+  -- THE SAME RUNS with effective thresholds
   same-run : {st st′ : State} {es : List Event} → Inv t st → Run t st es st′ → Run (effective t) st es st′
   same-run inv done = done
   same-run inv (silent {st = st} m r) = silent (same-move t valid st inv m) (same-run (keeps t (laws t valid) st inv m) r)

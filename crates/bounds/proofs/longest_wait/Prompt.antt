@@ -29,7 +29,7 @@ use Rattle.bounds.proofs.starvation_freedom.Situations.{Situation}
 use Rattle.bounds.specs.LongestWait.InLine.{ends-at, others-entry, in-line, bypass, prompt, count-steps}
 use Rattle.bounds.proofs.longest_wait.Ends.{ends-last, Ends, here, onward, chain-ends}
 
--- IN LINE OR A BYPASS: an entry in which the thread does not enter is of another
+-- IN LINE OR A BYPASS: if the thread does not enter, an entry is another thread's
 own-entry : (i : ℕ) (y : Step) (ys : List Step) → occurrences i (entering (y ∷ ys)) ≡ 0 → is-entry (y .kind) ≡ true → eqb (y .thread) i ≡ false
 unfolding entering occurrences
 own-entry i y ys o e = by (eqb (y .thread) i) refl
@@ -57,7 +57,7 @@ either-way t i s (y ∷ ys) o = by (is-entry (y .kind)) refl (ends-at (y .thread
     by true e true g rec = let own = own-entry i y ys o e in rw (e, own, g) (omega arith)
     by true e false g rec = let own = own-entry i y ys o e in rw (e, own, g) (omega arith)
 
--- A THREAD LOOKED TO is not Idle
+-- A THREAD THAT ANOTHER WAITS FOR is not Idle
 idle-acts : (t : Tree) (s : WordState) (j d : ℕ) → place s j ≡ Idle → acts t s j d ≡ false
 unfolding acts acts-at
 idle-acts t s j d e = rw e (and-false (on-path t j d))

@@ -1,4 +1,4 @@
--- One step leaves no more to see in line, and an entry in line leaves less: in every case, by the levels above.
+-- One step does not increase the entries still possible in line, and an entry in line decreases them: in every case, level by level.
 use mathlib.Core.Path.{_≡_, refl, sym, ap, _∙_}
 use mathlib.Core.List.{List, head-eq-of-cons-eq}
 use mathlib.Core.Logic.{_≢_, inl, inr}
@@ -47,7 +47,7 @@ module _ (t : Tree) (valid : Accepted t) (bits : Sixteen-bit t) (c : Situation t
   abbrev ch : Changed t g g′
   ch = next-change t valid bits c x hx
 
-  -- the step of x is so many entries in line for thread i
+  -- how many entries in line for thread i the step of x makes
   pub data Counts (i : ℕ) : (number : ℕ) → Type 0 where
     none : Counts i 0
     one : Enters t valid bits c x → Ends t valid bits c i x → x ≢ i → Counts i 1
@@ -56,7 +56,7 @@ module _ (t : Tree) (valid : Accepted t) (bits : Sixteen-bit t) (c : Situation t
   counts-few none = omega arith
   counts-few (one e n a) = omega arith
 
-  -- the line that a thread has is the one that its chain goes through
+  -- a thread's chain goes through its line
   same-line : (i j r b k : ℕ) (xs : List ℕ) → Line t valid bits c i j r b k xs → i < t .threads → Enters t valid bits c x → Ends t valid bits c i x → Ends t valid bits c b x
   same-line i j r b k xs L h f n =
       let y = line-ends t valid bits c i j x h f (L .stage) n in
@@ -76,7 +76,7 @@ module _ (t : Tree) (valid : Accepted t) (bits : Sixteen-bit t) (c : Situation t
       let own = own-end t valid bits c b x (real .0) e (λ z. let p = H .has-lock in omega arith) (same-line i j r b k xs L h e y) in
       held-enters t valid bits c sound x hx i j r b k v n xs H bound own e
 
-  -- THE FIRST IS ON ITS WAY UP, and what it may still see falls
+  -- THE FIRST IS ACQUIRING, and what is still possible for it decreases
   module _ (i j r b k u n f : ℕ) (xs : List ℕ) (L : Line t valid bits c i j r b k xs) (way : tag (g .stage b) ≤ 2) (bound : held-left t valid bits c i j b k 1 xs + u ≤ n) (few : f ≤ 1)
       (rec : g′ .stage b ≢ inside → Owed t valid bits c′ b u f) where
     real : (b < t .threads) × (k ≤ height t b)
@@ -121,11 +121,11 @@ module _ (t : Tree) (valid : Accepted t) (bits : Sixteen-bit t) (c : Situation t
         inside-tag : tag inside ≡ 4
         inside-tag = refl
 
-  -- WHO STANDS AT THE LEVEL OF A NUMBER, or above it: the number falls on the way up
+  -- A THREAD THAT STANDS fewer than m levels from the root; m decreases towards the root
   abbrev Deep : (m i : ℕ) → Type 0
   Deep m i = (j : ℕ) → g .stage i ≡ queued j → height t i < j + m
 
-  -- whoever is first where i stands, and on its way up, stands higher
+  -- if the first in i's queue stands, it is nearer to the root
   higher : (m i j r b k : ℕ) (xs : List ℕ) → Line t valid bits c i j r b k xs → Deep (suc m) i → Deep m b
   unfolding low
   higher m i j r b k xs L deep q e =
@@ -138,7 +138,7 @@ module _ (t : Tree) (valid : Accepted t) (bits : Sixteen-bit t) (c : Situation t
   abbrev Step : (m : ℕ) → Type 0
   Step m = (i n f : ℕ) → i < t .threads → Deep m i → Owes t valid bits c i n → Counts i f → g′ .stage i ≢ inside → Owed t valid bits c′ i n f
 
-  -- the number of a count for whoever is first
+  -- the step makes as many entries in line for the first of the queue
   counts-first : (i j r b k f : ℕ) (xs : List ℕ) → Line t valid bits c i j r b k xs → i < t .threads → Counts i f → g′ .stage b ≢ inside → Counts b f
   counts-first i j r b k f xs L h none a = none
   counts-first i j r b k f xs L h (one e y n) a = one e (same-line i j r b k xs L h e y) (λ z. a (ap (g′ .stage) (sym z) ∙ entry-inside t valid bits c x hx e))
@@ -165,7 +165,7 @@ module _ (t : Tree) (valid : Accepted t) (bits : Sixteen-bit t) (c : Situation t
       ]
   climbs-step i j n f h e bound (one y z w) a = absurd (w (own-end t valid bits c i x h y (λ q. let o = ap tag e in omega arith) z))
 
-  -- who stands, with W: an entry in line shows the line, and the line has at most W
+  -- a thread that stands, with the bound W: an entry in line gives its line, in which at most W is left
   module _ (m : ℕ) (rec : Step m) where
     line-step : (i j n : ℕ) → i < t .threads → Deep (suc m) i → W t valid bits i j ≤ n → Enters t valid bits c x → x ≢ i → Ends t valid bits c i x → Line-ends t valid bits c i j x → Owed t valid bits c′ i n 1
     line-step i j n h deep bound f a end y =
@@ -215,6 +215,6 @@ module _ (t : Tree) (valid : Accepted t) (bits : Sixteen-bit t) (c : Situation t
   all-steps zero = none-higher
   all-steps (suc m) = any-step m (all-steps m)
 
-  -- ONE STEP: what is left falls by the entries in line
+  -- ONE STEP: what is left decreases by the entries in line
   pub owes-step : (i n f : ℕ) → i < t .threads → Owes t valid bits c i n → Counts i f → g′ .stage i ≢ inside → Owed t valid bits c′ i n f
   owes-step i n f h o q a = all-steps (suc (height t i)) i n f h (λ j e. omega arith) o q a

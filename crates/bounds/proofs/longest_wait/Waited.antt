@@ -39,7 +39,7 @@ module _ (t : Tree) (i : ℕ) where
     not-entered : occurrences i (entering (first ∷ mid)) ≡ 0
     many : how-many is-entry mid ≡ n
 
-  -- 0 where there is none, else one more
+  -- 0 if there is none, otherwise one more than its entries
   Way : List Step → ℕ → Type 0
   Way so-far zero = Unit {0}
   Way so-far (suc n) = Under-way so-far n
@@ -48,7 +48,7 @@ module _ (t : Tree) (i : ℕ) where
   unfolding Way
   none-under-way so-far = tt
 
-  -- the thread does not enter by a step
+  -- a step in which the thread does not enter
   quiet-step : (y : Step) → enters i y ≡ false → occurrences i (entering (y ∷ [])) ≡ 0
   unfolding enters entering occurrences
   quiet-step y e = by (is-entry (y .kind)) refl
@@ -78,7 +78,7 @@ module _ (t : Tree) (i : ℕ) where
         many = omega (arith, u .many);
       }
 
-  -- a first step of the thread that is no entry
+  -- an attempt begins with a step that is no entry
   begins-here : (so-far : List Step) (y : Step) → begins t i y ≡ true → enters i y ≡ false → Under-way (so-far ++ (y ∷ [])) 0
   unfolding how-many
   begins-here so-far y b e =
@@ -103,7 +103,7 @@ module _ (t : Tree) (i : ℕ) where
       by false z zero w = rw z tt
       by false z (suc n) w = let q : suc n + cond (is-entry (y .kind)) 1 0 ≡ suc (n + cond (is-entry (y .kind)) 1 0) = omega arith in rw z (rw q (longer so-far n y e w))
 
-  -- a wait that is counted, but 0: the attempt that it is of
+  -- a counted wait other than 0, with its attempt
   record Found (all : List Step) (w : ℕ) : Type 0 where
     before : List Step
     first : Step

@@ -1,4 +1,4 @@
--- W along a path: of a member it is that of the others, and for each tenure that of the domain above.
+-- W along a path: for a member it is the passes of the others plus, for each tenure, W of the domain above.
 use mathlib.Core.Path.{_≡_, refl, ap}
 use mathlib.Core.Bool.{cond}
 use Prim.Native.Nat.{ℕ, zero, suc, _+_, _*_, _-_, _/_, _≤_, _<_}
@@ -16,7 +16,7 @@ use Rattle.bounds.specs.StarvationFreedom.Bounds.{members}
 use Rattle.bounds.proofs.starvation_freedom.Positions.{some-member}
 use Rattle.bounds.proofs.starvation_freedom.Arithmetic.{rounded-up}
 
--- W of a domain's own record in its parent; none at the root
+-- W of a domain's own record in its parent; 0 at the root
 unfoldable pub above-wait : Tree → (domain : ℕ) → ℕ
 above-wait t d = cond (eqb d 0) 0 (member-wait t (t .parent d) (256 + d))
 
@@ -32,7 +32,7 @@ module _ (t : Tree) (valid : Accepted t) where
       (λ z. rw (eq-eqb d 0 z) (omega arith))
       (λ z. rw (ne-eqb d 0 z) (ap (λ n. others-passes t d m + tenures-for-all t d * wait-from n t (t .parent d) (256 + d)) (depth-child t valid d (omega arith) h)))
 
-  -- the most that may be left above: where the first acquires, its own way and each whole tenure
+  -- what is left above, at most: one acquisition if the first is acquiring, and one for each full tenure
   pub tenures-enough : (d p : ℕ) → 0 < d → d < t .domains → suc p ≤ members t d → above-wait t d + (p / t .threshold d) * above-wait t d ≤ tenures-for-all t d * above-wait t d
   unfolding tenures-for-all
   tenures-enough d p z h l = rounded-up (t .threshold d) p (members t d) (above-wait t d) (valid .threshold-some d z h) l
@@ -47,7 +47,7 @@ module _ (t : Tree) (valid : Accepted t) where
     pub some-members : (k : ℕ) → k ≤ height t a → 1 ≤ members t (ancestor t a k)
     some-members k l = some-member t valid (ancestor t a k) (record-at t a k) (member-at t valid a ha k l)
 
-    -- no more is left above than there
+    -- W of the domain above is at most W here
     pub above-less : (k : ℕ) → k < height t a → above-wait t (ancestor t a k) ≤ member-wait t (ancestor t a k) (record-at t a k)
     above-less k b =
         omega (arith, wait-at (ancestor t a k) (record-at t a k) (ancestor-real t valid a ha k), tenures-enough (ancestor t a k) 0 (ancestor-inner t valid a ha k b) (ancestor-real t valid a ha k) (some-members k (omega arith)))
@@ -63,7 +63,7 @@ module _ (t : Tree) (valid : Accepted t) where
         let rec′ : member-wait t (ancestor t a (k + suc n)) (record-at t a (k + suc n)) ≤ member-wait t (ancestor t a (suc k)) (record-at t a (suc k)) = rw z at rec in
         omega (arith, wait-less k (omega arith))
 
-    -- so what is left above a domain is enough for every domain above it
+    -- so W above a domain is at least W at every domain above it
     pub above-enough : (k m : ℕ) → k < m → m ≤ height t a → member-wait t (ancestor t a m) (record-at t a m) ≤ above-wait t (ancestor t a k)
     above-enough k m b l =
         let rec = wait-higher (m - suc k) (suc k) (omega arith) in

@@ -1,4 +1,4 @@
--- From Idle to Inside, from the root down: how long a thread stands behind others, and so how long an acquisition takes.
+-- From Idle to Inside, from the root down: how long a thread stands after others, and so how long an acquisition takes.
 use mathlib.Core.Path.{_≡_, refl, ap, _∙_}
 use mathlib.Core.Bool.{true, false≢true}
 use mathlib.Core.List.{List, _∷_}
@@ -50,7 +50,7 @@ module _ (t : Tree) (valid : Accepted t) (bits : Sixteen-bit t) where
   tree-laws = laws t valid
 
   module _ (f : ℕ) (nearer-root : (g : ℕ) → g < f → Acquired t valid bits g) where
-    -- WHO STANDS in a domain so far from the root
+    -- A THREAD THAT STANDS in a domain at this distance from the root
     module _ (a m : ℕ) (ha : a < t .threads) (far : m + f ≡ height t a) where
       abbrev d : ℕ
       d = ancestor t a m
@@ -64,14 +64,14 @@ module _ (t : Tree) (valid : Accepted t) (bits : Sixteen-bit t) where
         by-domain : Woken t valid bits a ha m c → Freed c
         by-entry : Enters t valid bits a c → Freed c
 
-      -- those before it in the queue, and their passes
+      -- how many members are ahead of it in the queue, and their passes
       abbrev place-of : Situation t → ℕ
       place-of c = position mine (queues c .queue d)
 
       abbrev passes-of : Situation t → ℕ
       passes-of c = ahead (passes t) mine (queues c .queue d)
 
-      -- while r is first it comes no farther behind, and nearer once r is not, with the passes of r fewer before it
+      -- while r is first, a's distance does not grow; afterwards a is nearer, and the passes ahead are fewer by those of r
       abbrev Behind : (r n w : ℕ) → Situation t → Type 0
       Behind r n w c =
           (queues c .stage a ≡ queued m)
@@ -100,7 +100,7 @@ module _ (t : Tree) (valid : Accepted t) (bits : Sixteen-bit t) where
             | is-inside y ↦ inr (by-entry y)
           ]
 
-      -- the rounds of so many members before it, with so many passes
+      -- the rounds for this many members ahead of it, with this many passes
       abbrev before-rounds : (n w : ℕ) → ℕ
       before-rounds n w = n * (above-rounds t d + 5 * level t d) + entry-rounds t * w
 
@@ -108,7 +108,7 @@ module _ (t : Tree) (valid : Accepted t) (bits : Sixteen-bit t) where
       unfolding first-rounds
       tenure-and-rest r n w = let x = mul-add (entry-rounds t) (passes t r) w in omega arith
 
-      -- each member before it is first for the rounds of its tenure
+      -- each member ahead is first for the rounds of its tenure
       stands-rounds : (n w : ℕ) (c : Situation t) → queues c .stage a ≡ queued m → place-of c ≤ n → passes-of c ≤ w → Within t valid bits (before-rounds n w) Freed c
       stands-rounds zero w c e p y =
           absurd (let b = after-first mine (queues c .queue d) (standing t valid bits a m ha (omega arith) c e) (c .queued .represents .invariant .once d mine) in let o = b .2 in omega arith)
@@ -131,7 +131,7 @@ module _ (t : Tree) (valid : Accepted t) (bits : Sixteen-bit t) where
             | inr v ↦ at-once t valid bits (before-rounds n w′) v
           ]))
 
-      -- FROM THE END of its standing on
+      -- AFTER ITS STANDING
       next-inside : (c : Situation t) → m < height t a → Climbing t valid bits a (suc m) ha c → Within t valid bits (above-rounds t d) (Enters t valid bits a) c
       next-inside c b x =
           rw (above-next t valid a ha m b) (nearer-root (height t a - suc m) (omega arith) a (suc m) ha (omega arith) c x)
@@ -157,7 +157,7 @@ module _ (t : Tree) (valid : Accepted t) (bits : Sixteen-bit t) where
       above-there : above-rounds t d ≤ rest-rounds
       above-there = standing-above t valid d in-tree mine (above-rounds t d) some
 
-      -- where nothing is passed on, each member before it acquires the domains above
+      -- if nothing is passed on, each member ahead acquires the domains above
       singly-inside : tenure-length t d ≡ 1 → (c : Situation t) → queues c .stage a ≡ queued m → Within t valid bits rest-rounds (Enters t valid bits a) c
       unfolding standing-rounds
       singly-inside z c e =
@@ -177,7 +177,7 @@ module _ (t : Tree) (valid : Accepted t) (bits : Sixteen-bit t) where
           one-more : (n k a l : ℕ) → k ≡ suc n → k * a + n * l ≡ n * (a + l) + a
           one-more n k a l e = rw e (omega arith)
 
-      -- else everybody before it links in one round, and then the lock is passed on
+      -- else every member ahead is linked after one round, and then the lock is passed on
       module _ (long : 1 < tenure-length t d) (inner : 0 < d) (threshold-is : tenure-length t d ≡ t .threshold d) where
         one-link-more : link-rounds t d ≡ 1
         one-link-more = a-link t valid d in-tree long
@@ -191,7 +191,7 @@ module _ (t : Tree) (valid : Accepted t) (bits : Sixteen-bit t) where
         abbrev thr : ℕ
         thr = t .threshold d
 
-        -- so many acquisitions and releases
+        -- the rounds are enough for this many acquisitions, releases and passes
         fits : (p q w : ℕ) → p ≤ tenures-for t d (members t d) → q ≤ tenures-for t d (members t d - 1) → w ≤ others-passes t d mine →
             p * above-rounds t d + q * (5 * level t d) + entry-rounds t * w ≤ rest-rounds - 1
         fits p q w x y z = let u = standing-enough t valid d in-tree mine (above-rounds t d) p q w x y z in omega (arith, one-link-more)
@@ -215,7 +215,7 @@ module _ (t : Tree) (valid : Accepted t) (bits : Sixteen-bit t) where
           short : 2 + length xs ≤ members t d
           short = short-before t valid bits c a m r (l .thread) (l .index) xs L
 
-          -- the first is on its way up
+          -- the first is acquiring
           climb-lined : tag (queues c .stage (l .thread)) ≤ 2 → Within t valid bits (rest-rounds - 1) (Enters t valid bits a) c
           climb-lined w =
               let q = (1 + length xs) / thr in
@@ -226,7 +226,7 @@ module _ (t : Tree) (valid : Accepted t) (bits : Sixteen-bit t) where
               longer t valid bits (above-rounds t d + (entry-rounds t * weight (passes t) (r ∷ xs) + q * (5 * level t d + above-rounds t d))) (rest-rounds - 1) (omega arith)
               (climb-served t valid bits a m inner ha (omega arith) f nearer-root far xs c r (l .thread) (l .index) (l .real) A L w (climbs t valid bits d r (l .thread) (l .index) A c (L .first-there) w))
 
-          -- it has the lock
+          -- the first has the lock
           held-lined : 3 ≤ tag (queues c .stage (l .thread)) → Within t valid bits (rest-rounds - 1) (Enters t valid bits a) c
           unfolding until-ended weight
           held-lined w =
@@ -330,7 +330,7 @@ module _ (t : Tree) (valid : Accepted t) (bits : Sixteen-bit t) where
         let less : acquire-rounds t (ancestor t a m) (record-at t a m) ≤ home-rounds = rw z at (fewer t valid a ha m 0 (omega arith)) in
         longer t valid bits (acquire-rounds t (ancestor t a m) (record-at t a m)) home-rounds less (acquired (suc (height t a - m)) (height t a - m) (omega arith) a m ha (omega arith) c x)
 
-    -- as far as the home is from the root
+    -- the distance of the home from the root
     abbrev tall : ℕ
     tall = height t a
 

@@ -1,4 +1,4 @@
--- Who stands before a member: the sum of a value over them, which no step raises, and which is at most that of all other members.
+-- The members ahead of a member: the sum of a value over them, which no step increases, and which is at most the sum over all other members.
 use mathlib.Core.Path.{_≡_, refl, sym, ap, _∙_}
 use mathlib.Core.Bool.{true, cond}
 use mathlib.Core.List.{List, [], _∷_, _++_}
@@ -41,7 +41,7 @@ before-snoc m y (x ∷ xs) h =
     (λ e. before-here m x (xs ++ (y ∷ [])) e ∙ sym (before-here m x xs e))
     (λ n. before-past m x (xs ++ (y ∷ [])) n ∙ ap (λ l. x ∷ l) (before-snoc m y xs (omega (arith, count-cons m x xs, is-other m x n))) ∙ sym (before-past m x xs n))
 
--- none more often than in the whole, and the number itself not at all
+-- a number is there at most as often as in the whole list, and the number itself not at all
 before-fewer : (m a : ℕ) (q : List ℕ) → count a (before m q) ≤ count a q
 unfolding before
 before-fewer m a [] = omega arith
@@ -58,7 +58,7 @@ before-without m (x ∷ xs) =
     (λ e. ap (count m) (before-here m x xs e) ∙ count-nil m)
     (λ n. let z = ap (count m) (before-past m x xs n) in omega (arith, count-cons m x (before m xs), is-other m x n, before-without m xs))
 
--- THE SUM of a value over those before a number
+-- THE SUM of a value over the part before a number
 unfoldable pub ahead : (ℕ → ℕ) → (number : ℕ) → List ℕ → ℕ
 ahead f m q = weight f (before m q)
 
@@ -66,7 +66,7 @@ ahead-past : (f : ℕ → ℕ) (m x : ℕ) (xs : List ℕ) → m ≢ x → ahead
 unfolding ahead weight
 ahead-past f m x xs n = ap (weight f) (before-past m x xs n)
 
--- ONE STEP: the first stays, and the member has no more before it; or the member comes nearer, and the value of the first is gone
+-- ONE STEP: the first stays, and the member has no more ahead of it; or the member is nearer, and the value of the first is no longer counted
 pub nearer :
     (f : ℕ → ℕ) (d m r : ℕ) (e : Event) (q q′ : List ℕ) → Change d e q q′ → 1 ≤ count m (rest q) → count m q ≤ 1 → first q ≡ suc r →
     ((first q′ ≡ first q) × (position m q′ ≤ position m q) × (ahead f m q′ ≤ ahead f m q)) ⊎ ((suc (position m q′) ≤ position m q) × (f r + ahead f m q′ ≤ ahead f m q))
@@ -91,7 +91,7 @@ nearer f d m r e q q′ (moves a x xs y z b g n) h o u =
     inr (omega arith, omega arith)
 nearer f d m r e q q′ (closes a y z b g) h o u = absurd (let w : count m (rest q) ≡ 0 = rw (y, rest-cons a []) (count-nil m) in omega arith)
 
--- the first is among those before a member after it
+-- the first is ahead of every member after it
 pub ahead-first : (f : ℕ → ℕ) (m r : ℕ) (q : List ℕ) → 1 ≤ count m (rest q) → count m q ≤ 1 → first q ≡ suc r → f r ≤ ahead f m q
 ahead-first f m r [] h o u = absurd (omega (arith, ap (count m) rest-nil, count-nil m))
 ahead-first f m r (x ∷ xs) h o u =

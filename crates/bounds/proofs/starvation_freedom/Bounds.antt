@@ -16,11 +16,11 @@ use Rattle.bounds.specs.StarvationFreedom.Bounds.{passes, levels, entry-
 use Rattle.bounds.proofs.starvation_freedom.Positions.{some-member}
 use Rattle.bounds.proofs.starvation_freedom.Quotients.{standing-above}
 
--- the rounds from having a domain on to Inside
+-- the rounds from the acquisition of a domain to Inside
 unfoldable pub above-rounds : Tree → (domain : ℕ) → ℕ
 above-rounds t d = cond (eqb d 0) 1 (acquire-rounds t (t .parent d) (256 + d))
 
--- those in which its member is first
+-- the rounds in which its member is first
 unfoldable pub first-rounds : Tree → (domain member : ℕ) → ℕ
 first-rounds t d m = above-rounds t d + entry-rounds t * passes t m + 5 * level t d
 
@@ -51,7 +51,7 @@ module _ (t : Tree) (valid : Accepted t) where
       (λ z. rw (ne-eqb d 0 z) (omega (arith, acquire-at (t .parent d) (256 + d) (omega (arith, valid .parent-lower d (omega arith) h)))))
 
   module _ (a : ℕ) (ha : a < t .threads) where
-    -- the Checks of a thread are among the rounds for one entry
+    -- the rounds for one entry include the Checks of a thread
     pub checks-few : 3 + height t a ≤ entry-rounds t
     unfolding entry-rounds levels level height
     checks-few = let x = largest-ge (t .domains) (λ d. suc (depth t d)) (t .home a) (valid .home-real a ha) in omega arith
@@ -61,7 +61,7 @@ module _ (t : Tree) (valid : Accepted t) where
     above-next k b =
         rw (ne-eqb (ancestor t a k) 0 (omega (arith, ancestor-inner t valid a ha k b))) (ap (λ d. acquire-rounds t d (256 + ancestor t a k)) (ancestor-parent-of t valid a ha k b))
 
-    -- the rounds from an index of its path on
+    -- the rounds from an index of its path
     abbrev from : (index : ℕ) → ℕ
     from k = acquire-rounds t (ancestor t a k) (record-at t a k)
 
@@ -76,7 +76,7 @@ module _ (t : Tree) (valid : Accepted t) where
         let enough = standing-above t valid (ancestor t a k) (ancestor-real t valid a ha k) (record-at t a k) (above-rounds t (ancestor t a k)) some in
         omega (arith, acquire-at (ancestor t a k) (record-at t a k) (ancestor-real t valid a ha k), above-next k (omega arith))
 
-    -- so those above a domain are enough for every domain above it
+    -- so the rounds above a domain are enough from every domain above it
     pub above-enough : (k m : ℕ) → k < m → m ≤ height t a → acquire-rounds t (ancestor t a m) (record-at t a m) ≤ above-rounds t (ancestor t a k)
     above-enough k m b l =
         let rec = fewer (m - suc k) (suc k) (omega arith) in

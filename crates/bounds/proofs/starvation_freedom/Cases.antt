@@ -63,7 +63,7 @@ decides-rounds t (r ∷ rs) e =
     one-more r (record { threads = threads-pass t r (both .0); everyone = λ i h. ltb-true 0 (occurrences i r) (all-each (t .threads) (λ j. ltb 0 (occurrences j r)) (rest .0) i h) })
     (decides-rounds t rs (rest .1))
 
--- THE STALLED RELEASER: the state after two of the turns is the one after the first
+-- THE STALLED RELEASER: the turns, done twice, lead to the same state as done once
 abbrev stalled : State
 stalled = run stalled-tree until-stalled (fresh-state stalled-tree 0) .state
 
@@ -79,7 +79,7 @@ same-again = refl
 comes-back : run stalled-tree without-releaser turned .state ≡ turned
 comes-back = state-same (run stalled-tree without-releaser turned .state) turned same-again
 
--- the entries: until then of thread 0, and then of thread 2
+-- the entries: thread 0 before the releaser stalls, thread 2 in the turns
 entries-are :
     (run stalled-tree until-stalled (fresh-state stalled-tree 0) .trace ≡ 0 ∷ [])
     × (run stalled-tree without-releaser stalled .trace ≡ 2 ∷ [])
@@ -93,7 +93,7 @@ trace-join : (t : Tree) (is js : List ℕ) (s : State) → run t (is ++ js) s .t
 unfolding Run-law then-run
 trace-join t is js s = ap (λ x. x .trace) (run-law t s .joined is js)
 
--- how often a thread is in the trace
+-- how often a thread enters
 abbrev enters : (thread : ℕ) → List ℕ → State → ℕ
 enters i is s = occurrences i (run stalled-tree is s .trace)
 

@@ -1,4 +1,4 @@
--- The tree with the thresholds that have an effect: it is accepted too, and has the same paths and moves. So what is left of a tenure is at most the passes.
+-- The tree with effective thresholds is accepted too, and has the same paths and moves. So what is left of a tenure is at most the passes.
 use mathlib.Core.Path.{_≡_, refl, sym, ap, _∙_}
 use mathlib.Core.Bool.{Bool, true, false, cond}
 use mathlib.Core.List.{List, _∷_}
@@ -45,7 +45,7 @@ module _ (t : Tree) where
   effective-record i zero = refl
   effective-record i (suc k) = ap (λ d. 256 + d) (effective-ancestor i k)
 
-  -- AND ACCEPTED
+  -- THE TREE IS ACCEPTED
   threshold-of-many : (d : ℕ) → 2 ≤ members t d → effective t .threshold d ≡ t .threshold d
   unfolding effective effective-threshold
   threshold-of-many d h = rw (lt-ltb 1 (members t d) h)
@@ -83,7 +83,7 @@ module _ (t : Tree) where
     same-last st i j (lower e) = lower e
 
     module _ (st : State) (inv : Inv t st) where
-      -- who hands the lock on has another member after it
+      -- if the first has another member after it, the domain has at least two members
       many : (d a b : ℕ) (xs : List ℕ) → st .queue d ≡ a ∷ b ∷ xs → 2 ≤ members t d
       many d a b xs shape = let l : length (st .queue d) ≡ suc (suc (length xs)) = ap length shape in omega (arith, queue-short t valid st inv d)
 
@@ -109,7 +109,7 @@ module _ (t : Tree) where
       same-move (let-go i j b shape) =
           rw (← effective-ancestor i j) (let-go i j (same-last st i j b) (rw (effective-ancestor i j, effective-record i j) shape))
 
-    -- a step's moves, with the entries that they make
+    -- the same moves of a step, with the same entries
     pub record Same-change {st st′ : State} (c : Changed t st st′) : Type 0 where
       pub change : Changed T st st′
       pub same-hits : (n : ℕ) → hits T change n ≡ hits t c n
@@ -159,7 +159,7 @@ module _ (t : Tree) where
     unfolding left-there
     left-pending-some st a j = left-some T (laws T effective-accepted) st a j
 
-    -- one less where the entry is made
+    -- one less once the entry is made
     module _ (st : State) (inv′ : Inv T st) (a j : ℕ) (h : j ≤ height t a) where
       pub left-less-inside : st .stage a ≡ inside → left-there st a j + 1 ≤ passes t (record-at t a j)
       unfolding left-there passes

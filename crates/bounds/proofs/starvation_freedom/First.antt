@@ -1,4 +1,4 @@
--- How long a member is first in a domain, where acquisitions from nearer to the root are bounded.
+-- How long a member is first in a domain, if acquisitions closer to the root are bounded.
 use mathlib.Core.Path.{_≡_, refl, ap, _∙_}
 use mathlib.Core.Logic.{inl, inr}
 use Prim.Native.Nat.{ℕ, suc, _+_, _-_, _≤_, _<_}
@@ -36,25 +36,25 @@ module _ (t : Tree) (valid : Accepted t) (bits : Sixteen-bit t) where
   abbrev pub Enters : (a : ℕ) → Situation t → Type 0
   Enters a c = place (c .words) a ≡ Inside
 
-  -- a thread acquires the domain at an index of its path, or was granted the one below alone
+  -- a thread acquires the domain at an index of its path, or was granted only the one below
   pub data Climbing (a m : ℕ) (ha : a < t .threads) (c : Situation t) : Type 0 where
     prepares : Acquires t a m (place (c .words) a) → Climbing a m ha c
     swaps : place (c .words) a ≡ Swap (ancestor t a m) → Climbing a m ha c
     stands : queues c .stage a ≡ queued m → Climbing a m ha c
     goes-on : (k : ℕ) → m ≡ suc k → Woken t valid bits a ha k c → Climbing a m ha c
 
-  -- whoever is ready enters with its next step
+  -- a thread that is ready enters with its next step
   pub ready-inside : (a : ℕ) → a < t .threads → (c : Situation t) → queues c .stage a ≡ ready → Within t valid bits 1 (Enters a) c
   ready-inside a ha c e =
       one-round t valid bits a ha (λ x. queues x .stage a ≡ ready) (Enters a)
       (λ x y h n u. inl (ready-lasts t valid bits a ha x u y h n)) (λ x h u. ready-enters t valid bits a ha x u h) e
 
-  -- an acquisition from a domain that is so far from the root
+  -- an acquisition from a domain at this distance from the root
   abbrev pub Acquired : (distance : ℕ) → Type 0
   Acquired f =
       (a m : ℕ) (ha : a < t .threads) → m + f ≡ height t a → (c : Situation t) → Climbing a m ha c → Within t valid bits (acquire-rounds t (ancestor t a m) (record-at t a m)) (Enters a) c
 
-  -- THE FIRST of a domain, whatever its tenure comes to
+  -- THE FIRST of a domain, for any aim of its tenure
   module _ (d r a j : ℕ) (A : Actor t valid bits d r a j) where
     abbrev ha : a < t .threads
     ha = A .real
@@ -72,14 +72,14 @@ module _ (t : Tree) (valid : Accepted t) (bits : Sixteen-bit t) where
     abbrev pub First-at : Situation t → Type 0
     First-at c = j < low (height t a) (queues c .stage a)
 
-    -- where its stage is known, the index is below what the stage says
+    -- what being first at index j implies for its stage
     first-by : (c : Situation t) (x : Stage) → First-at c → queues c .stage a ≡ x → j < low (height t a) x
     first-by c x b e = rw e at b
 
     letting-by : (c : Situation t) (k : ℕ) → First-at c → queues c .stage a ≡ letting-go (height t a) k → j ≤ k
     letting-by c k b e = let y = first-by c (letting-go (height t a) k) b e in omega (arith, letting-go-low (height t a) k)
 
-    -- ON ITS WAY UP: it acquires a domain nearer to the root
+    -- ACQUIRING: it acquires a domain nearer to the root
     pub record Climbs (c : Situation t) : Type 0 where
       pub index : ℕ
       pub above : j < index
@@ -115,11 +115,11 @@ module _ (t : Tree) (valid : Accepted t) (bits : Sixteen-bit t) where
       abbrev pub held-rounds : ℕ
       held-rounds = tenure-rest t valid bits d r q most
 
-      -- where one entry less is left
+      -- the rounds with one entry less left
       abbrev pub less-rounds : ℕ
       less-rounds = tenure-rest t valid bits d r q (most - 1)
 
-      -- Inside, the round of its Wait is over
+      -- once it is Inside, the round of its Wait is over
       pub inside-leaves : (c : Situation t) → Enters a c → Within t valid bits (one - 1 + less-rounds) (q .met) c
       unfolding Says
       inside-leaves c e =
@@ -197,7 +197,7 @@ module _ (t : Tree) (valid : Accepted t) (bits : Sixteen-bit t) where
 
     -- FROM THE ROOT DOWN
     module _ (f : ℕ) (nearer-root : (g : ℕ) → g < f → Acquired g) (far : j + f ≡ height t a) where
-      -- it acquires a domain nearer to the root, and is Inside
+      -- it acquires the domains nearer to the root, and is Inside
       pub climbing-inside : (c : Situation t) → Climbs c → Within t valid bits (above-rounds t d) (Enters a) c
       climbing-inside c x =
           let m = x .index in
@@ -206,7 +206,7 @@ module _ (t : Tree) (valid : Accepted t) (bits : Sixteen-bit t) where
           let above : acquire-rounds t (ancestor t a m) (record-at t a m) ≤ above-rounds t d = rw (A .there) at (above-enough t valid a ha j m b l) in
           longer t valid bits (acquire-rounds t (ancestor t a m) (record-at t a m)) (above-rounds t d) above (nearer-root (height t a - m) (omega arith) a m ha (omega arith) c (x .climbing))
 
-      -- and leaves its queue
+      -- and then it leaves its queue
       abbrev gone-rounds : ℕ
       gone-rounds = held-rounds (until-gone t valid bits d r)
 

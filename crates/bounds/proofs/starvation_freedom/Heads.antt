@@ -1,4 +1,4 @@
--- What one step does to whoever is first in a domain: it stays first, with the lock or on its way up, or the next member comes first, with the lock or with the domain alone.
+-- The effect of one step on the first in a domain: it stays first, with the lock or still acquiring, or the next member becomes first, with the lock or with the domain only.
 use mathlib.Core.Path.{_≡_, refl, sym, ap, _∙_}
 use mathlib.Core.List.{List, [], _∷_}
 use mathlib.Core.Logic.{_≢_, _⊎_, inl, inr}
@@ -16,17 +16,17 @@ use Rattle.claims.proofs.Queues.Remaining.{acts-real, joining-far, standing-far
 use Rattle.claims.proofs.Queues.Changes.{started-by, Changed, unmoved, moved, begun}
 use Rattle.bounds.proofs.starvation_freedom.Queues.{tag}
 
--- thread b is first at index k
+-- after a step; before it, thread b is first at index k
 pub data After (T : Tree) (st st′ : State) (b k : ℕ) : Type 0 where
-  -- its record stays first, and itself or a thread that was handed the lock acts for it
+  -- its record stays first, and the thread itself or one that got the lock from it acts for it
   kept :
       (b′ k′ : ℕ) → k′ < low (height T b′) (st′ .stage b′) → ancestor T b′ k′ ≡ ancestor T b k → record-at T b′ k′ ≡ record-at T b k →
       st′ .tally (record-at T b k) ≡ st .tally (record-at T b k) → ((b′ ≡ b) × (k′ ≡ k)) ⊎ (st′ .stage b′ ≡ ready) → After T st st′ b k
-  -- the next member has the lock
+  -- the next member is first, and has the lock
   passed :
       (s l : ℕ) (xs : List ℕ) → st .stage b ≡ holding → st .queue (ancestor T b k) ≡ record-at T b k ∷ record-at T s l ∷ xs →
       st′ .queue (ancestor T b k) ≡ record-at T s l ∷ xs → st .stage s ≡ queued l → ancestor T s l ≡ ancestor T b k → st′ .stage s ≡ ready → st′ .tally (record-at T s l) ≡ suc (st .tally (record-at T b k)) → After T st st′ b k
-  -- it has the domain, and goes on up
+  -- the next member is first, has only the domain, and acquires its parent
   released :
       (s l : ℕ) (xs : List ℕ) → st .stage b ≡ releasing k → st .queue (ancestor T b k) ≡ record-at T b k ∷ record-at T s l ∷ xs →
       st′ .queue (ancestor T b k) ≡ record-at T s l ∷ xs → st .stage s ≡ queued l → ancestor T s l ≡ ancestor T b k → st′ .stage s ≡ climb (suc l) →
@@ -74,7 +74,7 @@ module _ (T : Tree) (tree-laws : Laws T) where
         kept-tally : after .tally (record-at T b k) ≡ st .tally (record-at T b k)
         kept-tally = put-other (st .tally) (record-at T s l) v (record-at T b k) (standing-far T tree-laws st inv s l waits b k first-there)
 
-        -- not the one who hands over, or one of its domains below
+        -- b is another thread than the one that hands over, or k is below j
         lower-there : ((b ≡ i) → k < j) → After T st after b k
         unfolding low
         lower-there h =
@@ -84,7 +84,7 @@ module _ (T : Tree) (tree-laws : Laws T) where
             (λ z. let x = low-is s (queued l) z waits in omega (arith, same-low s y z)))
             kept-tally
 
-      -- whoever has the lock handed on below acts above in the place of the one before
+      -- a thread that is granted the lock at a lower domain acts in the domains above in place of the one before
       handed-above :
           (i j s l : ℕ) (xs : List ℕ) → st .stage i ≡ holding → j ≤ height T i → (w : st .stage s ≡ queued l) (m : ancestor T s l ≡ ancestor T i j)
           (shape : st .queue (ancestor T i j) ≡ record-at T i j ∷ record-at T s l ∷ xs) (apart : s ≢ i) (up : l < low (height T s) ready) → b ≡ i → (e : ℕ) → k ≡ j + suc e →
@@ -149,12 +149,12 @@ module _ (T : Tree) (tree-laws : Laws T) where
     pub after-one : {e : Event} {st′ : State} → Move T st e st′ → (b k : ℕ) → k < low (height T b) (st .stage b) → After T st st′ b k
     after-one mv b k h = after-move b k h mv
 
-  -- a thread that is first is not one about to start
+  -- a thread that is first is not about to start
   pub not-starting : (st : State) (i b k : ℕ) → st .stage i ≡ out → k < low (height T b) (st .stage b) → b ≢ i
   unfolding low
   not-starting st i b k e h z = let y : low (height T b) (st .stage b) ≡ 0 = ap (λ n. low (height T b) (st .stage n)) z ∙ ap (low (height T b)) e in omega arith
 
-  -- and a start before it
+  -- a thread that stands after another thread's start stood before it
   waited : (st : State) (i s l : ℕ) → put (st .stage) i (climb 0) s ≡ queued l → st .stage s ≡ queued l
   unfolding tag
   waited st i s l w =

@@ -1,4 +1,4 @@
--- The first of a queue has the lock, and others stand after it, each linked to the one before: what one step makes of that.
+-- The first of a queue has the lock, and others are after it, each linked to the one before: the effect of one step.
 use mathlib.Core.Path.{_≡_, refl, sym, ap, _∙_}
 use mathlib.Core.List.{List, [], _∷_, _++_, nil≢cons, head-eq-of-cons-eq, tail-eq-of-cons-eq}
 use mathlib.Core.Logic.{_≢_, _⊎_, inl, inr}
@@ -39,7 +39,7 @@ pub record Held (t : Tree) (valid : Accepted t) (bits : Sixteen-bit t) (c : Situ
   pub count-within : queues c .tally r ≤ v
   pub at-threshold : ancestor t i j ≢ 0 → Over (ancestor t i j) (place (c .words) b) → t .threshold (ancestor t i j) ≤ v
 
--- the first has left, the count was at least the threshold, and the next has the domain alone
+-- the first has left, the count was at least the threshold, and the next has only the domain
 pub data Given (t : Tree) (valid : Accepted t) (bits : Sixteen-bit t) (c : Situation t) (i j v : ℕ) : List ℕ → Type 0 where
   own-domain : (h : i < t .threads) → t .threshold (ancestor t i j) ≤ v → 0 < ancestor t i j → Woken t valid bits i h j c → Given t valid bits c i j v []
   domain :
@@ -85,9 +85,9 @@ module _ (t : Tree) (valid : Accepted t) (bits : Sixteen-bit t) (c : Situation t
       let n : count a (g .queue d) ≡ is a a + (is a y + count a zs) = ap (count a) q ∙ count-cons a a (y ∷ zs) ∙ ap (λ m. is a a + m) (count-cons a y zs) in
       omega (arith, inv .once d a, is-same a a refl, is-same a y (sym same-one))
 
-  -- where b stays first, its count stays
+  -- if b stays first, its count does not change
   module _ (i j r b k : ℕ) (xs : List ℕ) (L : Line t valid bits c i j r b k xs) where
-    -- somebody stands after it
+    -- a member is after it
     pub not-closed : g .queue (ancestor t b k) ≡ record-at t b k ∷ [] → ⊥
     not-closed q =
         let shape : g .queue (ancestor t b k) ≡ r ∷ (xs ++ (record-at t i j ∷ L .later)) = rw (L .there) (L .shape) in
@@ -109,7 +109,7 @@ module _ (t : Tree) (valid : Accepted t) (bits : Sixteen-bit t) (c : Situation t
     abbrev e : ℕ
     e = ancestor t i j
 
-    -- the Check of the same thread
+    -- if b stays first and its Check is over, v is at least the threshold
     over-kept : k < low (height t b) (g′ .stage b) → e ≢ 0 → Over e (place (c′ .words) b) → t .threshold e ≤ v
     unfolding All-linked
     over-kept h z =
@@ -123,7 +123,6 @@ module _ (t : Tree) (valid : Accepted t) (bits : Sixteen-bit t) (c : Situation t
         λ o. rw (L .there) at (own hx h (rw (L .there) o)))
         (λ y o. H .at-threshold z (rw (place-other t valid bits c x hx b (λ w. y (sym w))) at o))
 
-    -- b stays first
     pub held-itself : k < low (height t b) (g′ .stage b) → g′ .tally r ≡ g .tally r → Held t valid bits c′ i j r b k v xs
     unfolding tag
     held-itself h y =
@@ -147,7 +146,7 @@ module _ (t : Tree) (valid : Accepted t) (bits : Sixteen-bit t) (c : Situation t
               }
         ]
 
-  -- THE NEXT MEMBER comes first
+  -- THE NEXT MEMBER becomes first
   module _ (i j r b k v : ℕ) where
     abbrev mine : ℕ
     mine = record-at t i j
@@ -155,7 +154,7 @@ module _ (t : Tree) (valid : Accepted t) (bits : Sixteen-bit t) (c : Situation t
     abbrev top : ℕ
     top = ancestor t i j
 
-    -- it is i itself
+    -- the next member is i itself
     next-own : (later zs : List ℕ) (s l : ℕ) → g .stage i ≡ queued j → g .queue top ≡ r ∷ (mine ∷ later) → g .queue top ≡ r ∷ record-at t s l ∷ zs → g .stage s ≡ queued l → (i ≡ s) × (j ≡ l)
     unfolding acts
     next-own later zs s l e q q′ w =
@@ -177,7 +176,7 @@ module _ (t : Tree) (valid : Accepted t) (bits : Sixteen-bit t) (c : Situation t
           at-threshold = λ q o. absurd (not-over t valid bits s (real .0) c′ top (place (c′ .words) s) refl (rw y (omega arith)) o);
         }) y
 
-    -- with the domain alone: the count was at the threshold
+    -- the next member has only the domain: the count was at the threshold
     pub released-given :
         (xs : List ℕ) → Held t valid bits c i j r b k v xs → g .stage b ≡ releasing k → (s l : ℕ) (zs : List ℕ) → g .queue top ≡ r ∷ record-at t s l ∷ zs →
         g′ .queue top ≡ record-at t s l ∷ zs → g .stage s ≡ queued l → ancestor t s l ≡ top → g′ .stage s ≡ climb (suc l) → Given t valid bits c′ i j v xs

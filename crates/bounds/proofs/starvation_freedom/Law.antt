@@ -1,4 +1,4 @@
--- Nobody starves under fair schedules: the laws, from what holds within rounds.
+-- No thread starves under fair schedules: the laws, from what holds within rounds.
 use mathlib.Core.Path.{_≡_, refl, sym, ap, _∙_, subst}
 use mathlib.Core.Bool.{Bool, true, false, cond, false≢true}
 use mathlib.Core.List.{List, [], _∷_}
@@ -102,7 +102,7 @@ module _ (t : Tree) (ok : tree-refusal t .number ≡ 0) (bits : Sixteen-bit t) (
   valid : Accepted t
   valid = accepted t ok
 
-  -- ARRIVING somewhere along a schedule, after some entry
+  -- ARRIVING at a place, after some entry of a schedule
   record Found (q : Place) (S : List ℕ) (s : State) : Type 0 where
     entry : ℕ
     within : entry ≤ length S
@@ -139,12 +139,12 @@ module _ (t : Tree) (ok : tree-refusal t .number ≡ 0) (bits : Sixteen-bit t) (
       let o = occurrences-join i (cond (is-entry (y .kind)) (y .thread ∷ []) []) (entering (steps t S (y .state))) in
       omega arith
 
-  -- an own step that enters
+  -- the thread's own step enters
   entry-here : (S : List ℕ) (c : Situation t) → is-entry (step t i (c .words) .kind) ≡ true → Has-entry (i ∷ S) c
   unfolding run run-of steps entering occurrences step
   entry-here S c e = rw e (rw (eq-eqb i i refl) (omega arith))
 
-  -- an own step that does not enter does not arrive Inside
+  -- the thread's own step, if it is no entry, does not lead Inside
   not-yet : (c : Situation t) (h : i < t .threads) → place (c .words) i ≢ Inside → is-entry (step t i (c .words) .kind) ≡ false → place (next t valid bits c i h .words) i ≢ Inside
   unfolding Kind-law step
   not-yet c h n e p =
@@ -169,7 +169,7 @@ module _ (t : Tree) (ok : tree-refusal t .number ≡ 0) (bits : Sixteen-bit t) (
           own h rec)
           (λ z. longer-has S c x h (rec (λ p. n (sym (place-other t valid bits c x h i (λ y. z (sym y))) ∙ p))))
 
-  -- THE BOUNDS of a situation
+  -- THE BOUNDS from a situation
   acquiring-not-inside : (c : Situation t) → is-acquiring (place (c .words) i) ≡ true → place (c .words) i ≢ Inside
   unfolding is-acquiring
   acquiring-not-inside c a e = false≢true (sym (ap is-acquiring e) ∙ a)

@@ -1,4 +1,4 @@
--- What is left of a tenure, in entries: no step leaves more, and an entry leaves less.
+-- What is left of a tenure, in entries: no step increases it, and an entry decreases it.
 use mathlib.Core.Path.{_≡_, refl, sym, ap, _∙_}
 use Prim.Native.Nat.{ℕ, zero, suc, _+_, _≤_, _<_}
 use native.Mathlib.Omega.{arith}
@@ -29,7 +29,7 @@ hits-shown T unmoved n = refl
 hits-shown T (moved {e = e} mv) n = event-sum (λ e. hit e n) refl e
 hits-shown T (begun i h e c) n = hits-shown T c n
 
--- an entry was still to come, and the thread is inside after it
+-- before an entry it is pending, and after it the thread is inside
 entered-move : (T : Tree) {st st′ : State} {i : ℕ} → Move T st (entered i) st′ → (pending (st .stage i) ≡ 1) × (st′ .stage i ≡ inside)
 unfolding pending
 entered-move T {st} (join-root i j e r z) = (ap pending e, put-same (st .stage) i inside i refl)
@@ -46,7 +46,7 @@ hits-enters T (begun {st = st} i r e c) a h =
     let x = hits-enters T c a h in
     (same-or a i _ (λ z. ap (λ n. pending (st .stage n)) z ∙ ap pending e) (λ z. ap pending (sym (put-other (st .stage) i (climb 0) a z)) ∙ x .0), x .1)
 
--- a thread first at an index before, and whoever is first there with the same record after
+-- a thread is first at an index before, and one with the same record is first there after
 pub record Same-first (T : Tree) (st st′ : State) (a j b k : ℕ) : Type 0 where
   pub before : j < low (height T a) (st .stage a)
   pub after : k < low (height T b) (st′ .stage b)
@@ -112,7 +112,7 @@ module _ (T : Tree) (tree-laws : Laws T) where
         (λ z. ap pending (put-same (st .stage) i (climb 0) a z))
         (λ z. ap pending (put-other (st .stage) i (climb 0) a z) ∙ p)) q
 
-  -- AT MOST THE ALLOWANCE, and one less where the entry is made
+  -- AT MOST THE ALLOWANCE, and one less once the entry is made
   left-pending : (t : ℕ → ℕ) (x y : Stage) (i k : ℕ) → left T t x i k + pending y ≡ left T t y i k + pending x
   unfolding left
   left-pending t x y i zero = omega arith
@@ -123,7 +123,7 @@ module _ (T : Tree) (tree-laws : Laws T) where
   left-some st a zero = omega arith
   left-some st a (suc j) = let h = left-some st a j in omega arith
 
-  -- a thread that is Inside or holds the lock is first wherever one that is ready is
+  -- a thread that is Inside or holds the lock is first wherever a ready thread is
   module _ (st : State) (inv : Inv T st) (a : ℕ) where
     as-ready : (x : Stage) → st .stage a ≡ x → reach (height T a) x ≡ suc (height T a) → low (height T a) x ≡ suc (height T a) → acts (height T a) x ≡ suc (height T a) → Inv T (record { queue = st .queue; stage = put (st .stage) a ready; tally = st .tally })
     unfolding reach low acts

@@ -1,4 +1,4 @@
--- Who stands before a thread in its queue, each linked to the one before it.
+-- The members ahead of a thread in its queue, each linked to the one before it.
 use mathlib.Core.Path.{_≡_, refl, sym, ap, _∙_}
 use mathlib.Core.Bool.{false}
 use mathlib.Core.List.{List, [], _∷_, _++_, append-assoc}
@@ -19,7 +19,7 @@ use Rattle.claims.proofs.Words.Links.{after, after-here, after-past}
 use Rattle.bounds.proofs.starvation_freedom.Situations.{Situation, queues}
 use Rattle.bounds.proofs.starvation_freedom.Linked.{All-linked, linked-join}
 
--- who stands after a number that is once in a list
+-- what comes after a number that occurs once in a list
 after-split : (xs ys : List ℕ) (p : ℕ) → count p xs ≡ 0 → after (xs ++ (p ∷ ys)) p ≡ first ys
 after-split [] ys p h = after-here p p ys refl
 after-split (x ∷ xs) ys p h =
@@ -36,7 +36,7 @@ module _ (t : Tree) (valid : Accepted t) (bits : Sixteen-bit t) (c : Situation t
   abbrev inv : Inv t g
   inv = c .queued .represents .invariant
 
-  -- WHO STANDS BEFORE a thread that stands at index j: thread b at its index k acts for the first, r, and xs are between; all are linked
+  -- THE MEMBERS AHEAD of thread i, which stands at index j: thread b acts, at its index k, for the first, r; xs are between; all are linked
   pub record Line (i j r b k : ℕ) (xs : List ℕ) : Type 0 where
     pub stage : g .stage i ≡ queued j
     pub later : List ℕ
@@ -47,7 +47,7 @@ module _ (t : Tree) (valid : Accepted t) (bits : Sixteen-bit t) (c : Situation t
     pub mine : record-at t b k ≡ r
 
   module _ (E : ℕ → Type 0) where
-    -- and thread b is one of those
+    -- such members, and E holds for the thread that acts for the first
     pub record Lined (i j : ℕ) : Type 0 where
       pub head : ℕ
       pub thread : ℕ
@@ -57,7 +57,7 @@ module _ (t : Tree) (valid : Accepted t) (bits : Sixteen-bit t) (c : Situation t
       pub real : thread < t .threads
       pub end : E thread
 
-    -- after the one who acts for the record just before
+    -- the line of a thread, given the thread that acts for the record just before
     pub line-after :
         (i j a l p : ℕ) → g .stage i ≡ queued j → a < t .threads → l < acts (height t a) (g .stage a) → ancestor t a l ≡ ancestor t i j → record-at t a l ≡ p →
         after (g .queue (ancestor t i j)) p ≡ suc (record-at t i j) → (is-ticket t (ancestor t i j) ≡ false → next s p ≢ 0) → E a → (g .stage a ≡ queued l → Lined a l) →

@@ -1,4 +1,4 @@
--- A thread that stands, and who stands before it, through one step.
+-- A thread that stands, and the members ahead of it, across one step.
 use mathlib.Core.Path.{_≡_, refl, sym, ap, _∙_}
 use mathlib.Core.Bool.{true}
 use mathlib.Core.List.{List, [], _∷_, _++_, append-assoc, nil≢cons, head-eq-of-cons-eq, tail-eq-of-cons-eq}
@@ -28,7 +28,7 @@ use Rattle.bounds.proofs.starvation_freedom.Linked.{All-linked, linked-
 use Rattle.bounds.proofs.starvation_freedom.Stages.{steps-on, from-queued}
 use Rattle.bounds.proofs.starvation_freedom.Line.{Line}
 
--- one list with a member in it, through one change that keeps its first
+-- a queue with a member in it, after one change that keeps its first
 pub shape-kept :
     (d m r : ℕ) (e : Event) (xs later : List ℕ) (q q′ : List ℕ) → Change d e q q′ → q ≡ r ∷ (xs ++ (m ∷ later)) → first q′ ≡ suc r → ((a : ℕ) → count a q ≤ 1) →
     (ys : List ℕ) × (q′ ≡ r ∷ (xs ++ (m ∷ ys)))
@@ -83,7 +83,7 @@ module _ (t : Tree) (valid : Accepted t) (bits : Sixteen-bit t) where
       pub head-apart : r ≢ mine
       head-apart = before-once r (omega (arith, count-cons r r xs, is-same r r refl)) .1
 
-      -- members of the domain, and as many as it has
+      -- the queue has members of the domain only, and at most as many as the domain
       member-there : (a : ℕ) → 1 ≤ count a (g .queue d) → is-member t d a ≡ true
       member-there a h =
           let x = inv .acted d a h in
@@ -101,12 +101,12 @@ module _ (t : Tree) (valid : Accepted t) (bits : Sixteen-bit t) where
           let l : length (g .queue d) ≡ suc (length (xs ++ (mine ∷ L .later))) = ap length (L .shape) in
           omega (arith, length-append xs (mine ∷ L .later), queue-short t valid g inv d)
 
-  -- THROUGH ONE STEP
+  -- ACROSS ONE STEP
   module _ (c : Situation t) (x : ℕ) (hx : x < t .threads) where
     abbrev c′ : Situation t
     c′ = situations.next t valid bits c x hx
 
-    -- who stands and does not come first stands on
+    -- a thread that stands and does not become first keeps standing
     pub still-stands : (i j : ℕ) → queues c .stage i ≡ queued j → first (queues c′ .queue (ancestor t i j)) ≢ suc (record-at t i j) → queues c′ .stage i ≡ queued j
     unfolding tag low
     still-stands i j e n =
@@ -139,7 +139,7 @@ module _ (t : Tree) (valid : Accepted t) (bits : Sixteen-bit t) where
             mine = m ∙ L .mine;
           }
 
-    -- the next comes first, and s acts for it
+    -- the next member becomes first, and s acts for it
     pub line-next :
         (i j r b k y : ℕ) (ys : List ℕ) → Line t valid bits c i j r b k (y ∷ ys) → (s l : ℕ) (zs : List ℕ) → queues c .queue (ancestor t i j) ≡ r ∷ record-at t s l ∷ zs →
         queues c′ .queue (ancestor t i j) ≡ record-at t s l ∷ zs → ancestor t s l ≡ ancestor t i j → l < low (height t s) (queues c′ .stage s) → Line t valid bits c′ i j y s l ys

@@ -1,4 +1,4 @@
--- Records whose next is set: no step unsets it while they are in a queue.
+-- Records whose next is set: no step clears it while they are in a queue.
 use mathlib.Core.Path.{_≡_, refl, sym, ap, _∙_}
 use mathlib.Core.List.{List, [], _∷_, _++_}
 use mathlib.Core.Logic.{_≢_}

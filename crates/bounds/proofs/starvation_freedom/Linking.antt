@@ -1,4 +1,4 @@
--- Who stands in a queue below the root is linked after one round, and so is everybody before it.
+-- A member of a queue below the root is linked after one round, and so is everybody ahead of it.
 use mathlib.Core.Path.{_≡_, refl, sym, ap, _∙_}
 use mathlib.Core.List.{List, [], _∷_, _++_}
 use mathlib.Core.Logic.{_≢_, inl, inr}
@@ -35,7 +35,7 @@ use Rattle.bounds.proofs.starvation_freedom.Waiting.{Woken, stands-on, 
 use Rattle.bounds.proofs.starvation_freedom.Positions.{position-within, position-snoc}
 use Rattle.bounds.proofs.starvation_freedom.Line.{Lined, line-after}
 
--- POSITIONS: a number at the end puts nobody nearer to the front; who is not in a list is after all
+-- POSITIONS: a number added at the end brings nobody nearer to the front; a number that is not in the list is after all of them
 position-longer : (r z : ℕ) (q : List ℕ) → position r q ≤ position r (q ++ (z ∷ []))
 unfolding position
 position-longer r z [] = omega arith
@@ -51,7 +51,7 @@ position-absent r (x ∷ xs) h =
     let n : r ≢ x = λ e. omega (arith, count-cons r x xs, is-same r x e) in
     position-past r x xs n ∙ ap suc (position-absent r xs (omega (arith, count-cons r x xs, is-other r x n)))
 
--- who is not after m now was not before the step
+-- a member that is not after m now was not after it before the step
 order-kept :
     (d m r : ℕ) (e : Event) (q q′ : List ℕ) → Change d e q q′ → 1 ≤ count m (rest q) → count m q ≤ 1 → position r q′ ≤ position m q′ → position r q ≤ position m q
 order-kept d m r e q q′ (stays z b g) h o p = let u = ap (position m) z in let v = ap (position r) z in omega arith
@@ -72,7 +72,7 @@ order-kept d m r e q q′ (moves a x xs y z b g n) h o p =
     (λ w. let v : position r q ≡ suc (position r (x ∷ xs)) = ap (position r) y ∙ position-past r a (x ∷ xs) w in omega arith)
 order-kept d m r e q q′ (closes a y z b g) h o p = absurd (let w : count m (rest q) ≡ 0 = rw (y, rest-cons a []) (count-nil m) in omega arith)
 
--- a thread that stands at an index is behind the first there
+-- a thread that stands at an index is after the first there
 pub standing :
     (t : Tree) → Accepted t → Sixteen-bit t → (a m : ℕ) → a < t .threads → m ≤ height t a → (c : Situation t) → queues c .stage a ≡ queued m →
     1 ≤ count (record-at t a m) (rest (queues c .queue (ancestor t a m)))
@@ -92,7 +92,7 @@ module _ (t : Tree) (valid : Accepted t) (bits : Sixteen-bit t) (a m : ℕ) (ha 
   abbrev there : (member : ℕ) → Situation t → ℕ
   there r c = position r (queues c .queue d)
 
-  -- whoever has still to link, up to a itself, has a turn in the schedule
+  -- every thread that still has to link, up to a itself, has a turn in the schedule
   abbrev Pending : List ℕ → Situation t → Type 0
   Pending S c =
       (y k q : ℕ) → y < t .threads → k ≤ height t y → ancestor t y k ≡ d → place (c .words) y ≡ Link d q → there (record-at t y k) c ≤ there mine c → 1 ≤ occurrences y S
@@ -102,7 +102,7 @@ module _ (t : Tree) (valid : Accepted t) (bits : Sixteen-bit t) (a m : ℕ) (ha 
     abbrev Up : (thread index : ℕ) → Type 0
     Up i j = Lined t valid bits c (λ _. Unit {0}) i j
 
-    -- given that of those before
+    -- given this for the members before
     line-with :
         (n : ℕ) → ((b k : ℕ) → b < t .threads → k ≤ height t b → queues c .stage b ≡ queued k → ancestor t b k ≡ d → there (record-at t b k) c < n → there (record-at t b k) c ≤ there mine c → Up b k) →
         (i j : ℕ) → i < t .threads → j ≤ height t i → queues c .stage i ≡ queued j → ancestor t i j ≡ d → there (record-at t i j) c ≤ n → there (record-at t i j) c ≤ there mine c → Up i j

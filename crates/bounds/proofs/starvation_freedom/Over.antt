@@ -1,4 +1,4 @@
--- Who is first in a domain and has the lock: whether its Check there is over. It comes to be over only where the count is the threshold or nobody is linked after it.
+-- The first in a domain, with the lock: whether its Check there is over. The Check ends only if the count is the threshold or nobody is linked after it.
 use mathlib.Core.Path.{_≡_, sym, ap, _∙_}
 use mathlib.Core.Bool.{Bool, true, false, cond}
 use mathlib.Core.Logic.{_≢_, _⊎_, inl, inr}
@@ -33,7 +33,7 @@ use Rattle.bounds.proofs.starvation_freedom.Turns.{Releases, by-check, 
 use Rattle.bounds.proofs.starvation_freedom.Ready.{ready-enters}
 use Rattle.bounds.proofs.starvation_freedom.Queues.{tag}
 
--- the Check of a domain is over, for a thread whose record is first there: on one path parents have lower numbers
+-- the Check of a domain is over, for a thread whose record is first there; on a path, parents have lower numbers
 unfoldable pub Over : (domain : ℕ) → Place → Type 0
 Over d Idle = ⊥
 Over d (Prep l) = ⊥
@@ -67,7 +67,7 @@ module _ (t : Tree) (valid : Accepted t) (bits : Sixteen-bit t) (b : ℕ) (hb : 
     abbrev x : Stage
     x = queues c .stage b
 
-    -- ready or Inside, it is not
+    -- until the thread has left Inside, it is not over
     pub not-over : (d : ℕ) (p : Place) → place s b ≡ p → tag x ≤ 4 → Over d p → ⊥
     unfolding Over Says tag
     not-over d (Check l) e h o = let y = says t valid c b hb (Check l) e in let z = ap tag (y .3) in omega arith
@@ -91,7 +91,7 @@ module _ (t : Tree) (valid : Accepted t) (bits : Sixteen-bit t) (b : ℕ) (hb : 
     not-over d Watch e h o = o
     not-over d Invalid e h o = o
 
-    -- releasing its domain, it is
+    -- while the thread releases the domain, it is over
     pub releasing-over : (k : ℕ) → k < height t b → x ≡ releasing k → Over (ancestor t b k) (place s b)
     unfolding Over Staged
     releasing-over k h z = by (staged t valid c b hb (releasing k) z)
@@ -102,14 +102,14 @@ module _ (t : Tree) (valid : Accepted t) (bits : Sixteen-bit t) (b : ℕ) (hb : 
         by (lingering e) = rw e tt
         by (granting r e) = let n = ne-eqb (ancestor t b k) 0 (omega (arith, ancestor-inner t valid b hb k h)) in rw (e, n) (inr (omega arith))
 
-    -- ITS OWN STEP, where its record is first at index k before and after it
+    -- ITS OWN STEP, if its record is first at index k before and after it
     abbrev c′ : Situation t
     c′ = situations.next t valid bits c b hb
 
     abbrev after : Place
     after = place (c′ .words) b
 
-    -- why Check does not pass the lock on
+    -- a place from which a domain is released is no Grant
     not-granting : (m l r w : ℕ) → Releases t b m after → after ≡ Grant l r w → ⊥
     not-granting m l r w (by-check e y) g = let o = ap (λ u. words-of u .row) (sym e ∙ g) in omega arith
     not-granting m l r w (by-help e y) g = let o = ap (λ u. words-of u .row) (sym e ∙ g) in omega arith

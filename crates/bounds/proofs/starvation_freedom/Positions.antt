@@ -1,4 +1,4 @@
--- How far after the first a member stands: at most as far as the domain has other members.
+-- How far a member is from the first: at most the number of other members of the domain.
 use mathlib.Core.Path.{_≡_, refl, sym, ap, _∙_}
 use mathlib.Core.Bool.{Bool, true, cond}
 use mathlib.Core.List.{List, [], _∷_, _++_}
@@ -19,7 +19,7 @@ use Rattle.claims.proofs.Words.Tickets.{total, total-length}
 use Rattle.chain.proofs.Reached.Orders.{position, position-here, position-past}
 use Rattle.bounds.specs.StarvationFreedom.Bounds.{members}
 
--- HOW LONG a list is whose numbers pass a test, none twice
+-- THE LENGTH of a list whose numbers pass a test, none twice
 total-passing : (n : ℕ) (q : List ℕ) (f : ℕ → Bool) → ((a : ℕ) → 1 ≤ count a q → f a ≡ true) → ((a : ℕ) → count a q ≤ 1) → total n q ≤ length (filter-below n f)
 unfolding total filter-below
 total-passing zero q f p o = omega arith
@@ -30,7 +30,7 @@ total-passing (suc n) q f p o =
     (λ h. let one : length (cond (f n) (n ∷ []) []) ≡ 1 = rw (p n h) refl in omega (arith, o n))
     (λ h. omega arith)
 
--- a queue is no longer than its domain has members
+-- a queue is at most as long as the number of its domain's members
 pub queue-short : (t : Tree) → Accepted t → (st : State) → Inv t st → (d : ℕ) → length (st .queue d) ≤ members t d
 unfolding members
 queue-short t valid st inv d =
@@ -40,7 +40,6 @@ queue-short t valid st inv d =
     rw (x .place, x .mine) at (member-at t valid (x .thread) (r .0) (x .index) (r .2)) in
     omega (arith, total-length 320 (st .queue d) (λ a h. member-small t valid d a (is-one a h)), total-passing 320 (st .queue d) (is-member t d) is-one (inv .once d))
 
--- a domain with a member has one
 pub some-member : (t : Tree) → Accepted t → (d m : ℕ) → is-member t d m ≡ true → 1 ≤ members t d
 unfolding members
 some-member t valid d m e =
@@ -65,7 +64,7 @@ position-snoc m y (x ∷ xs) h =
     (λ e. position-here m x (xs ++ (y ∷ [])) e ∙ sym (position-here m x xs e))
     (λ n. position-past m x (xs ++ (y ∷ [])) n ∙ ap suc (position-snoc m y xs (omega (arith, count-cons m x xs, is-other m x n))) ∙ sym (position-past m x xs n))
 
--- whoever stands after the first has someone before it
+-- a member after the first has one ahead of it
 pub after-first : (m : ℕ) (q : List ℕ) → 1 ≤ count m (rest q) → count m q ≤ 1 → (a : ℕ) × (first q ≡ suc a) × (1 ≤ position m q)
 after-first m [] h o = absurd (omega (arith, ap (count m) rest-nil, count-nil m))
 after-first m (x ∷ xs) h o =

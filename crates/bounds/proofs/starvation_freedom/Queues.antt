@@ -1,4 +1,4 @@
--- What one step does to the queues: who leaves, who comes nearer, what is left of a tenure.
+-- The effect of one step on the queues: who leaves, who moves ahead, what is left of a tenure.
 use mathlib.Core.Path.{_≡_, refl, sym, ap, _∙_}
 use mathlib.Core.List.{List, _∷_}
 use mathlib.Core.Logic.{_≢_}
@@ -31,7 +31,7 @@ down-tag zero e = omega arith
 down-tag (suc j) e = omega arith
 
 module _ (T : Tree) (tree-laws : Laws T) (st : State) (inv : Inv T st) where
-  -- WHO HAS LET GO of its domain at an index is in no queue with its record there
+  -- A THREAD THAT HAS LET GO of its domain at an index: its record there is in no queue
   pub gone : (a j : ℕ) → a < T .threads → st .stage a ≡ down j → (d : ℕ) → count (record-at T a j) (st .queue d) ≡ 0
   gone a j ha e d =
       absent T tree-laws st inv a j d (ap (acts (height T a)) e ∙ acts-down (height T a) j) (omega (arith, tree-laws .few))
@@ -44,7 +44,7 @@ queue-change T d unmoved = (nothing, stays refl refl refl)
 queue-change T d (moved {st = st} {e = e} mv) = (e, change T st d mv)
 queue-change T d (begun i h e c) = queue-change T d c
 
--- THE PASS: where a thread that held the lock has let go of a domain below the root, another of that domain is ready
+-- THE PASS: if a thread that had the lock has let go of a domain below the root, another thread of that domain is ready
 pub record Handed (T : Tree) (st′ : State) (a k : ℕ) : Type 0 where
   pub thread : ℕ
   pub index : ℕ
@@ -53,7 +53,7 @@ pub record Handed (T : Tree) (st′ : State) (a k : ℕ) : Type 0 where
   pub meets : ancestor T thread index ≡ ancestor T a k
 
 module _ (T : Tree) (tree-laws : Laws T) (a k : ℕ) (low-there : k < height T a) where
-  -- another thread's stage
+  -- a change of another thread's stage
   unmoved-there : (f : ℕ → Stage) (i : ℕ) (x : Stage) {C : Type 0} → f a ≡ holding → put f i x a ≡ down k → f i ≢ holding → C
   unfolding tag
   unmoved-there f i x {C} e z n =
@@ -61,7 +61,7 @@ module _ (T : Tree) (tree-laws : Laws T) (a k : ℕ) (low-there : k < height T a
       (λ y. absurd (n (ap f (sym y) ∙ e)))
       (λ y. absurd (down-tag k (ap tag (sym z ∙ put-other f i x a y ∙ e))))
 
-  -- stages of other numbers
+  -- a stage with another number is not holding
   apart : (x : Stage) → tag x ≢ 5 → x ≢ holding
   unfolding tag
   apart x n e = n (ap tag e)
@@ -107,7 +107,7 @@ module _ (T : Tree) (tree-laws : Laws T) (a k : ℕ) (low-there : k < height T a
   handed inv (begun {st = st} i h e c) x z =
       handed (keeps T tree-laws st inv (start i h e)) c (put-other (st .stage) i (climb 0) a (λ y. apart out (λ o. omega arith) (sym e ∙ ap (st .stage) (sym y) ∙ x)) ∙ x) z
 
--- WHO IS FIRST does not stand after the first after one step
+-- THE FIRST of a queue does not stand in it after one step
 pub first-not-after : (d m : ℕ) (e : Event) (q q′ : List ℕ) → Change d e q q′ → first q ≡ suc m → count m q ≤ 1 → count m q′ ≤ 1 → count m (rest q′) ≡ 0
 first-not-after d m e q q′ (stays z b g) f o o′ = let f′ : first q′ ≡ suc m = rw z f in omega (arith, first-count m q′ f′)
 first-not-after d m e q q′ (opens r y z b g) f o o′ = absurd (omega (arith, ap first y, first-nil))

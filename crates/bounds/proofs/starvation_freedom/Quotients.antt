@@ -1,4 +1,4 @@
--- The length of a domain's tenures, and how many of them so many members take.
+-- The length of a domain's tenures, and how many of them a number of members take.
 use mathlib.Core.Path.{_≡_, refl, _∙_}
 use mathlib.Core.Bool.{Bool, true, false, cond}
 use mathlib.Core.Logic.{_≢_}
@@ -13,7 +13,7 @@ use Rattle.model.proofs.Trees.Accepted.{Accepted}
 use Rattle.bounds.specs.StarvationFreedom.Bounds.{members, effective-threshold, others-passes, entry-rounds, tenure-length, tenures-for, link-rounds, standing-rounds}
 use Rattle.bounds.proofs.starvation_freedom.Arithmetic.{quotient-grows, one-tenure, by-one, fewer-tenures, no-more-tenures}
 
--- tenures of one member each, or longer ones, of a domain below the root with several members
+-- the tenures of a domain: of one member each, or longer ones, below the root with several members
 pub data Tenure-length (t : Tree) (d : ℕ) : Type 0 where
   singly : tenure-length t d ≡ 1 → Tenure-length t d
   longer : 1 < tenure-length t d → 0 < d → 1 < members t d → tenure-length t d ≡ t .threshold d → Tenure-length t d
@@ -52,7 +52,7 @@ module _ (t : Tree) (valid : Accepted t) (d : ℕ) (h : d < t .domains) where
   unfolding link-rounds
   a-link l = rw (lt-ltb 1 (tenure-length t d) l) refl
 
-  -- so many tenures, where so many members stand
+  -- the tenures for n members are enough for those ahead of one of them, and its own
   pub tenures-enough : (p n : ℕ) → p < n → suc (p / tenure-length t d) ≤ tenures-for t d n
   unfolding tenures-for
   tenures-enough p n l =
@@ -64,12 +64,12 @@ module _ (t : Tree) (valid : Accepted t) (d : ℕ) (h : d < t .domains) where
   unfolding tenures-for
   tenures-over p n l = quotient-grows (tenure-length t d) p (n + tenure-length t d - 1) length-some (omega (arith, length-some))
 
-  -- fewer than the members, or as many
+  -- fewer tenures than members; for one member less, at most as many
   pub tenures-fewer : 1 < tenure-length t d → 1 < members t d → (suc (tenures-for t d (members t d)) ≤ members t d) × (tenures-for t d (members t d - 1) ≤ members t d - 1)
   unfolding tenures-for
   tenures-fewer l m = (fewer-tenures (members t d) (tenure-length t d) m l, no-more-tenures (members t d - 1) (tenure-length t d) length-some)
 
-  -- the rounds of a standing with that many acquisitions, releases and entries, or fewer
+  -- the rounds of a standing are enough for at most that many acquisitions, releases and entries
   pub standing-enough : (m above p q w : ℕ) → p ≤ tenures-for t d (members t d) → q ≤ tenures-for t d (members t d - 1) → w ≤ others-passes t d m →
       link-rounds t d + p * above + q * (5 * level t d) + entry-rounds t * w ≤ standing-rounds t d m above
   unfolding standing-rounds
@@ -80,7 +80,7 @@ module _ (t : Tree) (valid : Accepted t) (d : ℕ) (h : d < t .domains) where
       let z = mul-le-mul same c in
       omega arith
 
-  -- the domains above are acquired
+  -- they are enough to acquire the domains above
   pub standing-above : (m above : ℕ) → 1 ≤ members t d → above ≤ standing-rounds t d m above
   unfolding standing-rounds
   standing-above m above s =

@@ -1,4 +1,4 @@
--- A thread that was granted the lock: it stays so until its own step, and that step enters.
+-- A thread that was granted the lock stays so until its own step, and that step enters.
 use mathlib.Core.Path.{_≡_, sym, ap, _∙_}
 use mathlib.Core.Logic.{_≢_, _⊎_, inl, inr}
 use Prim.Native.Nat.{ℕ, zero, suc, _≤_, _<_}
@@ -53,7 +53,7 @@ module _ (t : Tree) (valid : Accepted t) (bits : Sixteen-bit t) (a : ℕ) (ha : 
     pub ready-enters : (h : a < t .threads) → place (next t valid bits c a h .words) a ≡ Inside
     ready-enters h = enters-from there h
 
-    -- another's step leaves it ready
+    -- another thread's step leaves it ready
     module _ (x : ℕ) (hx : x < t .threads) (n : x ≢ a) where
       abbrev d : Situation t
       d = next t valid bits c x hx

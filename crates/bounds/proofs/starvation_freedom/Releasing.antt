@@ -51,7 +51,7 @@ module _ (t : Tree) (valid : Accepted t) (bits : Sixteen-bit t) (a : ℕ) (ha : 
   place-round p Q own e =
       one-round t valid bits a ha (λ c. place (c .words) a ≡ p) Q (λ c x h n y. inl (place-other t valid bits c x h a (λ z. n (sym z)) ∙ y)) own e
 
-  -- the domain at an index is let go of
+  -- the thread has let go of the domain at an index
   abbrev pub Done : (index : ℕ) → Situation t → Type 0
   Done k c = place (c .words) a ≡ done-at t a k
 
@@ -71,7 +71,7 @@ module _ (t : Tree) (valid : Accepted t) (bits : Sixteen-bit t) (a : ℕ) (ha : 
     abbrev Lingers : Situation t → Type 0
     Lingers c = place (c .words) a ≡ Linger L
 
-    -- LINGER: a next that is there is kept
+    -- LINGER: a next that is set stays set
     set-by :
         (c : Situation t) (x : ℕ) (h : x < t .threads) → a ≢ x → Lingers c → next (c .words) R ≢ 0 → (b : Bool) → links (place (c .words) x) R ≡ b →
         next (row t x (place (c .words) x) (c .words) .state) R ≢ 0
@@ -98,7 +98,7 @@ module _ (t : Tree) (valid : Accepted t) (bits : Sixteen-bit t) (a : ℕ) (ha : 
         (λ c x h n (e, v). inl (place-other t valid bits c x h a (λ z. n (sym z)) ∙ e, next-set c x h (λ z. n (sym z)) e v))
         (λ c h (e, v). turns.linger-turn t valid bits c a h L e (rw (own-record-at t valid a ha k l) v)) p
 
-    -- not yet linked: the thread behind is in Link, and links
+    -- not yet linked: the thread after it is in Link, and links
     record Linker (c : Situation t) : Type 0 where
       thread : ℕ
       real : thread < t .threads
@@ -176,7 +176,7 @@ module _ (t : Tree) (valid : Accepted t) (bits : Sixteen-bit t) (a : ℕ) (ha : 
     go-round (grants r e) = longer t valid bits 1 5 (omega arith) (grant-round r (release-word L) e)
     go-round (raises e z) = longer t valid bits 1 5 (omega arith) (place-round Raise (Done k) (λ c h y. turns.raise-turn t valid bits c a h y ∙ ap (done-at t a) (sym z)) e)
 
-  -- its own step lets go of it, or goes on
+  -- its own step lets go of the domain, or continues
   pub go-turn : (k : ℕ) → k ≤ height t a → (c : Situation t) (h : a < t .threads) → Lets-go t a k (place (c .words) a) →
       Lets-go t a k (place (situations.next t valid bits c a h .words) a) ⊎ Done k (situations.next t valid bits c a h)
   go-turn k l c h (helps e) = elim (turns.help-turn t valid bits c a h (ancestor t a k) e) [ to-cas p ↦ inl (tries p) | to-grant r p ↦ inl (grants r p) ]
@@ -188,7 +188,7 @@ module _ (t : Tree) (valid : Accepted t) (bits : Sixteen-bit t) (a : ℕ) (ha : 
   go-turn k l c h (grants r e) = inr (turns.grant-turn t valid bits c a h k r (release-word (ancestor t a k)) l e)
   go-turn k l c h (raises e z) = inr (turns.raise-turn t valid bits c a h e ∙ ap (done-at t a) (sym z))
 
-  -- its stage
+  -- the stage of a thread that lets go
   pub lets-stage : (k : ℕ) → k ≤ height t a → (c : Situation t) → Lets-go t a k (place (c .words) a) → queues c .stage a ≡ letting-go (height t a) k
   unfolding Says
   lets-stage k l c (helps e) = help-stage t valid c a ha k l e
@@ -197,7 +197,7 @@ module _ (t : Tree) (valid : Accepted t) (bits : Sixteen-bit t) (a : ℕ) (ha : 
   lets-stage k l c (grants r e) = release-stage t valid c a ha k r l (λ _. omega (arith, bits (ancestor t a k))) e
   lets-stage k l c (raises e z) = raise-stage t valid c a ha e ∙ sym (letting-go-root (height t a) k z)
 
-  -- and of all from one index down to another
+  -- it lets go of all domains from one index down to another
   go-by : (n j k : ℕ) (l : k ≤ height t a) → k ≡ n + j → {c : Situation t} → Lets-go t a k (place (c .words) a) → Within t valid bits (5 * n + 5) (Done j) c
   go-by zero j k l e g = let z : k ≡ j = omega arith in within-map t valid bits 5 (λ d q. q ∙ ap (done-at t a) z) (go-round k l g)
   go-by (suc n) j zero l e g = absurd (omega arith)
@@ -235,7 +235,7 @@ module _ (t : Tree) (valid : Accepted t) (bits : Sixteen-bit t) (a : ℕ) (ha : 
     abbrev pub Lets : Situation t → Type 0
     Lets c = I c × (Lets-go t a (height t a) (place (c .words) a) ⊎ Passing c)
 
-    -- after a Check: a pass, or the parent is to be released
+    -- after a Check: a pass, or the parent is released next
     abbrev Checked : (index : ℕ) → Situation t → Type 0
     Checked k c = I c × (Passing c ⊎ Releases t a (suc k) (place (c .words) a))
 

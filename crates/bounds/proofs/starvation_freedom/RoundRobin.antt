@@ -18,7 +18,7 @@ front m zero zero h l = refl
 front m zero (suc k) h l = absurd (omega arith)
 front m (suc n) k h l = take-append-le k (in-order m) (round-robin m n) (omega (arith, in-order-length m))
 
--- a window that begins in the first round has the rest of it, and of the next one what was left out
+-- a window that begins in the first round has the rest of that round, and from the next one the threads that are missing
 first-window :
     (m n k i : ℕ) → k < m → k ≤ length (round-robin m n) → i < m → 1 ≤ occurrences i (take m (drop k (in-order m ++ round-robin m n)))
 first-window m n k i l room h =

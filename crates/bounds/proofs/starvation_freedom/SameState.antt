@@ -1,4 +1,4 @@
--- Two states that the computed cases take for the same are the same.
+-- Two states that the computed cases treat as equal are equal.
 use mathlib.Core.Path.{_≡_, refl}
 use mathlib.Core.Bool.{true, _&&_, false≢true}
 use mathlib.Core.List.{List, [], _∷_}

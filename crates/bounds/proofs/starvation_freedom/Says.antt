@@ -1,4 +1,4 @@
--- What a thread's place says of its stage, for each place by itself.
+-- What a thread's place implies about its stage, place by place.
 use mathlib.Core.Path.{_≡_, sym, ap, _∙_}
 use Prim.Native.Nat.{ℕ, zero, suc, _≤_, _<_}
 use native.Mathlib.Omega.{arith}
@@ -22,12 +22,12 @@ use Rattle.claims.proofs.Words.Releasing.{done-at}
 use Rattle.bounds.proofs.starvation_freedom.Situations.{Situation, queues}
 
 module _ (t : Tree) (valid : Accepted t) (c : Situation t) (i : ℕ) (h : i < t .threads) where
-  -- of a thread in a situation, by its place
+  -- what a thread's place implies, in a situation
   pub says : (p : Place) → place (c .words) i ≡ p → Says t (words-in (c .words)) (queues c) i p (queues c .stage i)
   unfolding words-in
   says p e = says-at e (c .queued .represents .fits i h)
 
-  -- and by its stage
+  -- and what its stage implies
   pub staged : (x : Stage) → queues c .stage i ≡ x → Staged t (words-in (c .words)) (queues c) i (place (c .words) i) x
   unfolding words-in
   staged x e = staged-at e (c .queued .represents .fits i h)
@@ -35,7 +35,7 @@ module _ (t : Tree) (valid : Accepted t) (c : Situation t) (i : ℕ) (h : i < t 
   same-index : (k m : ℕ) → k ≤ height t i → At t i (ancestor t i k) m → m ≡ k
   same-index k m l (e, b) = sym (ancestor-injective t valid i h k m l b e)
 
-  -- the stage at a place, where the place tells it
+  -- the stage at a place, if the place determines it
   pub link-stage : (k q : ℕ) → k ≤ height t i → place (c .words) i ≡ Link (ancestor t i k) q → queues c .stage i ≡ queued k
   unfolding Says
   link-stage k q l e = let y = says _ e in y .2 ∙ ap queued (same-index k (y .0) l (y .1))
@@ -60,7 +60,7 @@ module _ (t : Tree) (valid : Accepted t) (c : Situation t) (i : ℕ) (h : i < t 
   unfolding Says
   cas-stage k l e = let y = says _ e in y .2 ∙ ap (letting-go (height t i)) (same-index k (y .0) l (y .1))
 
-  -- with the word of a release
+  -- in Grant with the word of a release
   pub release-stage : (k r : ℕ) → k ≤ height t i → (k < height t i → t .threshold (ancestor t i k) ≤ 65535) → place (c .words) i ≡ Grant (ancestor t i k) r (release-word (ancestor t i k)) →
       queues c .stage i ≡ letting-go (height t i) k
   unfolding Says
@@ -90,7 +90,7 @@ module _ (t : Tree) (valid : Accepted t) (c : Situation t) (i : ℕ) (h : i < t 
         | release x f ↦ absurd (let n = ne-eqb (ancestor t i k) 0 (omega (arith, ancestor-inner t valid i h k b)) in let f′ : v ≡ acquire-parent = rw (z, n) at f in omega arith)
       ]
 
-  -- where a domain is let go of
+  -- at the place after a domain is released
   pub done-stage : (k : ℕ) → k ≤ height t i → place (c .words) i ≡ done-at t i k → queues c .stage i ≡ down k
   unfolding Says down
   done-stage zero l e = says _ e

@@ -1,4 +1,4 @@
--- How long a thread stands in a linked queue below the root: the lock is passed on from member to member until the count is the threshold, and then the domains above are released and acquired anew.
+-- How long a thread stands in a linked queue below the root: the lock is passed from member to member until the count is the threshold, and then the domains above are released and acquired again.
 use mathlib.Core.Path.{_≡_, refl, sym, ap, _∙_}
 use mathlib.Core.List.{List, [], _∷_, _++_}
 use mathlib.Core.Logic.{_⊎_, inl, inr}
@@ -44,7 +44,7 @@ zero-or : (n : ℕ) → (n ≡ 0) ⊎ (0 < n)
 zero-or zero = inl refl
 zero-or (suc n) = inr (omega arith)
 
--- letting go of a domain or of one above it, the Check is over
+-- if a thread lets go of a domain or of one above it, the Check is over
 pub lets-over : (t : Tree) (d b k : ℕ) (p : Place) → 0 < d → (ancestor t b k ≡ 0) ⊎ (0 < ancestor t b k) → Lets-go t b k p → Over d p
 unfolding Over
 lets-over t d b k p h z (helps e) = rw e tt
@@ -83,7 +83,7 @@ module _ (t : Tree) (valid : Accepted t) (bits : Sixteen-bit t) (a m : ℕ) (inn
       abbrev k : ℕ
       k = G .index
 
-      -- it goes on, and is still first
+      -- it continues, and is still first
       goes-on-there : (u : ℕ) → k ≤ u → u ≤ height t b → Lets-go t b u (place (c′ .words) b) → Letting c′
       goes-on-there u o w g =
           let s = lets-stage t valid bits b (G .real) u w c′ g in
@@ -134,7 +134,7 @@ module _ (t : Tree) (valid : Accepted t) (bits : Sixteen-bit t) (a m : ℕ) (inn
           ])
           (λ z. inl (goes-on-there (G .upper) (G .above) (G .within) (rw (place-other t valid bits c x hx b (λ y. z (sym y))) (G .lets))))
 
-  -- IN TURN: the thread a stands after others, each linked, and the domains above are acquired in so many rounds
+  -- IN TURN: thread a is after other members, each linked, and the domains above are acquired within this number of rounds
   module _ (ha : a < t .threads) (within : m ≤ height t a) (f : ℕ) (nearer-root : (g : ℕ) → g < f → Acquired t valid bits g) (far : m + f ≡ height t a) where
     abbrev pub above : ℕ
     above = above-rounds t d
@@ -142,27 +142,27 @@ module _ (t : Tree) (valid : Accepted t) (bits : Sixteen-bit t) (a m : ℕ) (inn
     abbrev pub out : ℕ
     out = out-rounds t valid bits d
 
-    -- the rounds in which the domains above are released and acquired anew
+    -- the rounds in which the domains above are released and acquired again
     abbrev pub cycle : ℕ
     cycle = out + above
 
     abbrev pub entries : List ℕ → ℕ
     entries xs = entry-rounds t * weight (passes t) xs
 
-    -- the cycles before a's entry, where the count is v and xs stand between
+    -- the cycles before a's entry, if the count is v and xs are between
     abbrev pub cycles : (count : ℕ) → List ℕ → ℕ
     cycles v xs = ((v + length xs) / t .threshold d) * cycle
 
     some : 1 ≤ t .threshold d
     some = valid .threshold-some d inner (ancestor-real t valid a ha m)
 
-    -- with the lock, where its tenure has e rounds left
+    -- the claim if the first has the lock and its tenure has e rounds left
     abbrev pub Held-claim : List ℕ → Type 0
     Held-claim xs =
         (c : Situation t) (r b k v e u : ℕ) → Held t valid bits c a m r b k v xs → Within t valid bits e (Ended t valid bits d r) c → 1 ≤ u → cycles v xs ≤ u →
         Within t valid bits (e + (entries xs + u)) (Enters t valid bits a) c
 
-    -- with the domain alone
+    -- the claim if the first has only the domain
     abbrev pub Climb-claim : List ℕ → Type 0
     Climb-claim xs =
         (c : Situation t) (r b k : ℕ) (hb : b < t .threads) (A : Actor t valid bits d r b k) → Line t valid bits c a m r b k xs → tag (queues c .stage b) ≤ 2 → Climbs t valid bits d r b k A c →
@@ -172,7 +172,7 @@ module _ (t : Tree) (valid : Accepted t) (bits : Sixteen-bit t) (a m : ℕ) (inn
     Rest [] = Unit {0}
     Rest (y ∷ ys) = Held-claim ys × Climb-claim ys
 
-    -- the next has the domain alone
+    -- the next has only the domain
     given-inside : (xs : List ℕ) → Rest xs → (v u : ℕ) → cycles v xs ≤ u → (c : Situation t) → Given t valid bits c a m v xs → Within t valid bits (entries xs + (u - out)) (Enters t valid bits a) c
     unfolding Rest weight tag
     given-inside [] rest v u o c (own-domain h full pos w) =
@@ -188,7 +188,7 @@ module _ (t : Tree) (valid : Accepted t) (bits : Sixteen-bit t) (a m : ℕ) (inn
         longer t valid bits (above + (entries (y ∷ ys) + cycles 1 ys)) (entries (y ∷ ys) + (u - out)) (omega arith)
         (rest .1 c y s l h A L (rw (w .stage) (omega arith)) (record { index = suc l; above = omega arith; within = b; climbing = goes-on l refl w }))
 
-    -- the next has the lock, or the domain alone
+    -- the next has the lock, or only the domain
     turned-inside : (xs : List ℕ) → Rest xs → (v u : ℕ) → 1 ≤ u → cycles v xs ≤ u → (c : Situation t) → Turned t valid bits c a m v xs → Within t valid bits (entries xs + u) (Enters t valid bits a) c
     unfolding Rest weight until-ended low tag
     turned-inside [] rest v u some-left o c (own-lock y) = longer t valid bits 1 (entries [] + u) (omega arith) (ready-inside t valid bits a ha c y)
@@ -205,9 +205,8 @@ module _ (t : Tree) (valid : Accepted t) (bits : Sixteen-bit t) (a m : ℕ) (inn
     turned-inside [] rest v u some-left o c (given g) = longer t valid bits (entries [] + (u - out)) (entries [] + u) (omega arith) (given-inside [] rest v u o c g)
     turned-inside (y ∷ ys) rest v u some-left o c (given g) = longer t valid bits (entries (y ∷ ys) + (u - out)) (entries (y ∷ ys) + u) (omega arith) (given-inside (y ∷ ys) rest v u o c g)
 
-    -- HELD
+    -- THE FIRST HAS THE LOCK
     module _ (xs : List ℕ) (rest : Rest xs) where
-      -- whoever is first has the lock
       abbrev Holding : (r v : ℕ) → Situation t → Type 0
       Holding r v c = (b : ℕ) × (k : ℕ) × Held t valid bits c a m r b k v xs
 
@@ -265,7 +264,7 @@ module _ (t : Tree) (valid : Accepted t) (bits : Sixteen-bit t) (a m : ℕ) (inn
             | inr y ↦ turned-inside xs rest v u some-left o c′ y
           ])
 
-      -- ON ITS WAY UP
+      -- THE FIRST IS ACQUIRING
       module _ (r b k : ℕ) (hb : b < t .threads) (A : Actor t valid bits d r b k) where
         -- until it has the lock
         data Way (c : Situation t) : Type 0 where
@@ -338,7 +337,7 @@ module _ (t : Tree) (valid : Accepted t) (bits : Sixteen-bit t) (a m : ℕ) (inn
       climb-claim : Climb-claim xs
       climb-claim c r b k hb A L w climbs = climb-inside r b k hb A c L w climbs
 
-    -- ALL, by how many stand between
+    -- ALL CLAIMS, by the number of members between
     served : (xs : List ℕ) → Rest xs
     unfolding Rest
     served [] = tt

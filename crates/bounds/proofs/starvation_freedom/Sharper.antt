@@ -48,7 +48,7 @@ module _ (t : Tree) (valid : Accepted t) where
       each q true z = few d q (and-both (is-member t d q) (not (eqb q m)) z .0)
       each q false z = omega arith
 
-  -- tenures take no more rounds than if the domains above were acquired anew for each member
+  -- tenures take no more rounds than if the domains above were acquired again for each member
   tenures-less : (d m a : ℕ) → d < t .domains → is-member t d m ≡ true → 1 ≤ a →
       standing-rounds t d m a ≤ a + (members t d - 1) * (a + 5 * level t d) + entry-rounds t * others-passes t d m
   unfolding standing-rounds
@@ -61,7 +61,7 @@ module _ (t : Tree) (valid : Accepted t) where
       less-one zero a l h = absurd (omega arith)
       less-one (suc n) a l h = let z : suc n - 1 ≡ n = omega arith in rw z (omega arith)
 
-      -- one tenure less, and a round for the links
+      -- one tenure less, but a round for the links
       spared : (x y n a l : ℕ) → suc x ≤ n → y ≤ n - 1 → 1 ≤ a → 1 + x * a + y * l ≤ n * a + (n - 1) * l
       spared x y n a l p q r =
           let u = mul-le-mul-right a p in
@@ -79,7 +79,7 @@ module _ (t : Tree) (valid : Accepted t) where
           let x = spared (tenures-for t d (members t d)) (tenures-for t d (members t d - 1)) (members t d) a (5 * level t d) (fewer .0) (fewer .1) s in
           omega (arith, a-link t valid d h l)
 
-  -- the same rounds above, or fewer, are the same or fewer here
+  -- at most as many rounds above give at most as many here
   others-less : (d m a b : ℕ) → d < t .domains → is-member t d m ≡ true → 1 ≤ a → a ≤ b → standing-rounds t d m a ≤ (members t d - 1) * (b + entry-rounds t * largest-allowance t d + 5 * level t d) + b
   others-less d m a b in-tree e s h =
       let n = members t d - 1 in

@@ -1,4 +1,4 @@
--- A state with the queues that it represents, and its steps, each with the one move of the queues that it is.
+-- A state with the queues that it represents, and its steps, each with its move of the queues.
 use mathlib.Core.Path.{_≡_, refl, ap, _∙_}
 use mathlib.Core.Logic.{_≢_}
 use Prim.Native.Nat.{ℕ, _<_}
@@ -21,9 +21,9 @@ use Rattle.bounds.proofs.starvation_freedom.Stages.{Ones, ones-step}
 pub record Situation (t : Tree) : Type 0 where
   pub words : WordState
   pub queued : Queued t words
-  -- the counts are at most the thresholds that have an effect
+  -- the counts are at most the effective thresholds
   pub effectively : Inv (effective t) (queued .queues)
-  -- and 1 while their thread is on its way up
+  -- and 1 while their thread is acquiring
   pub ones : Ones t (queued .queues)
 
 -- the queues of a situation

@@ -1,4 +1,4 @@
--- What one step does to the stage of a thread on its way up; and that a domain which it has acquired counts 1 until it has the lock.
+-- The effect of one step on the stage of a thread that is acquiring; and a domain that it has acquired counts 1 until the thread has the lock.
 use mathlib.Core.Path.{_≡_, refl, sym, ap, _∙_}
 use mathlib.Core.List.{List}
 use mathlib.Core.Logic.{_≢_, _⊎_, inl, inr}
@@ -17,7 +17,7 @@ use Rattle.claims.proofs.Queues.Remaining.{acts-real, joining-far, standing-far
 use Rattle.claims.proofs.Queues.Changes.{Changed, unmoved, moved, begun}
 use Rattle.bounds.proofs.starvation_freedom.Queues.{tag}
 
--- a thread's way: where a stage leads in one move
+-- a thread's stages: where a stage leads in one move
 pub data Leads : Stage → Stage → Type 0 where
   same : {x : Stage} → Leads x x
   starts : Leads out (climb 0)
@@ -55,7 +55,7 @@ leads T {st} (release i j s l xs e w m shape) b = leads-two (st .stage) i s (rel
 leads T {st} (let-go i j (root e z) shape) b = leads-one (st .stage) i holding (down j) e (lets-go j) b
 leads T {st} (let-go i j (lower e) shape) b = leads-one (st .stage) i (releasing j) (down j) e (goes-down j) b
 
--- in a step; a thread that is out may do more
+-- where a stage leads in a step; a thread that is out may make two moves
 pub steps-on : (T : Tree) {st st′ : State} → Changed T st st′ → (b : ℕ) → st .stage b ≢ out → Leads (st .stage b) (st′ .stage b)
 steps-on T unmoved b n = same
 steps-on T (moved mv) b n = leads T mv b
@@ -97,7 +97,7 @@ module _ (T : Tree) (valid : Accepted T) where
         let l′ : k < low (height T b) (st .stage b) = rw y at l in
         far b k l′ ∙ ones b k (rw y at h) l′)
 
-    -- the index below, with what was there
+    -- the counts at the indices below
     before-there : (i j : ℕ) (x : Stage) → st .stage i ≡ x → tag x ≤ 2 → low (height T i) x ≡ j → (k : ℕ) → k < j → st .tally (record-at T i k) ≡ 1
     before-there i j x e h l k b = ones i k (rw e h) (rw e (omega arith))
 
@@ -168,7 +168,7 @@ pub from-ready : (y : Stage) → Leads ready y → (y ≡ ready) ⊎ (y ≡ insi
 from-ready y same = inl refl
 from-ready y enters = inr refl
 
--- who has the lock, and is first somewhere, has it
+-- a thread that has the lock and stays first somewhere still has it
 down-lock : (h j k : ℕ) → k < low h (down j) → 3 ≤ tag (down j)
 unfolding low tag down
 down-lock h zero k l = absurd (omega arith)
@@ -188,7 +188,7 @@ lock-lasts h k (goes-down j) a l = down-lock h j k l
 lock-lasts h k (is-handed l) a b = absurd (omega arith)
 lock-lasts h k (is-granted l) a b = absurd (omega arith)
 
--- who is on its way up stays first where it is, and has not let go of anything
+-- a thread that is acquiring stays first where it is first, and has released nothing
 pub way-lasts : {x y : Stage} (h k : ℕ) → k ≤ h → Leads x y → tag x ≤ 2 → k < low h x → (k < low h y) × (tag y ≤ 4)
 unfolding tag low
 way-lasts h k b same a l = (l, omega arith)
@@ -223,7 +223,7 @@ inside-stage inside h = refl
 inside-stage holding h = absurd (omega arith)
 inside-stage (releasing j) h = absurd (omega arith)
 
--- on its way up, and first somewhere: it climbs or stands
+-- a thread that is acquiring and first somewhere climbs or stands
 pub on-way : (h k : ℕ) (x : Stage) → tag x ≤ 2 → k < low h x → (j : ℕ) × (k < j) × ((x ≡ climb j) ⊎ (x ≡ queued j))
 unfolding tag low
 on-way h k out a l = absurd (omega arith)
@@ -245,7 +245,7 @@ begun-index z (inl e) = absurd (let o = ap tag (z ∙ e) in omega arith)
 begun-index z (inr (inl e)) = let o = ap (low 0) (z ∙ e) in omega arith
 begun-index z (inr (inr (e, n))) = n
 
--- who stands stood there, or joins, maybe right after its start
+-- a thread that stands stood there before, or joins, maybe right after its start
 to-queued : {x y : Stage} (l : ℕ) → Leads x y → y ≡ queued l → (x ≡ queued l) ⊎ (x ≡ climb l)
 unfolding tag low
 to-queued l same e = inl e

@@ -1,4 +1,4 @@
--- While a member is first in a domain and its lock is held: how many rounds until it leaves the domain's queue.
+-- While a member is first in a domain and has the domain's lock: how many rounds until it leaves the domain's queue.
 use mathlib.Core.Path.{_≡_, refl, sym, ap, _∙_}
 use mathlib.Core.Logic.{_≢_, inl, inr}
 use Prim.Native.Nat.{ℕ, zero, suc, _+_, _*_, _-_, _≤_, _<_}
@@ -74,7 +74,7 @@ module _ (t : Tree) (valid : Accepted t) (bits : Sixteen-bit t) where
         longer t valid bits (5 * (k - j) + 5) (out-rounds d) (let z = level-there in omega arith)
         (within-map t valid bits (5 * (k - j) + 5) done-gone (all-go t valid bits a ha k j l b g))
 
-    -- where the thread is first there before and after a step
+    -- what is left does not grow if the thread is first there before and after a step
     left-keeps : (n : ℕ) (c : Situation t) (x : ℕ) (h : x < t .threads) → j < low (height t a) (queues c .stage a) → j < low (height t a) (queues (next t valid bits c x h) .stage a) →
         Left a j n c → Left a j n (next t valid bits c x h)
     left-keeps n c x h b b′ l =
@@ -96,7 +96,7 @@ module _ (t : Tree) (valid : Accepted t) (bits : Sixteen-bit t) where
     holds-keeps : (n : ℕ) (c : Situation t) (x : ℕ) (h : x < t .threads) → Holds t valid bits a ha c → Holds t valid bits a ha (next t valid bits c x h) → Left a j n c → Left a j n (next t valid bits c x h)
     holds-keeps n c x h e e′ l = left-keeps n c x h (holding-first c e) (holding-first (next t valid bits c x h) e′) l
 
-    -- A PASS: the record leaves, the thread goes on releasing, or another under the record is ready with no more left
+    -- A PASS: the record leaves the queue, the thread continues releasing, or another thread under the record is ready with no more left
     pub data Passed (n : ℕ) (c : Situation t) : Type 0 where
       left-queue : Gone d r c → Passed n c
       let-go-above : (k : ℕ) → k ≤ height t a → j ≤ k → Lets-go t a k (place (c .words) a) → Passed n c
@@ -143,18 +143,18 @@ module _ (t : Tree) (valid : Accepted t) (bits : Sixteen-bit t) where
         inl (q′, holds-keeps n c x h (passing-holds t valid bits a ha c q) (passing-holds t valid bits a ha c′ q′) i))
         (λ c h (q, i). passes-on n c h q i) (p, l)
 
-  -- WHAT A TENURE COMES TO: what holds once the record is gone, and so many rounds after its thread lets go of it or of a domain above
+  -- THE AIM OF A TENURE: what holds once the record is gone, and within how many rounds after its thread releases it or a domain above
   pub record Aim (d r : ℕ) : Type 1 where
     pub rounds : ℕ
     pub met : Situation t → Type 0
     pub at-gone : (c : Situation t) → Gone d r c → met c
     pub at-release : (a j : ℕ) → Actor d r a j → (k : ℕ) → k ≤ height t a → j ≤ k → {c : Situation t} → Lets-go t a k (place (c .words) a) → Within t valid bits rounds met c
 
-  -- that it is gone
+  -- the aim that it is gone
   unfoldable pub until-gone : (d r : ℕ) → Aim d r
   until-gone d r = record { rounds = out-rounds d; met = Gone d r; at-gone = λ c g. g; at-release = lets-gone d r }
 
-  -- that it is gone or the release has begun
+  -- the record is gone, or its release has begun
   pub data Ended (d r : ℕ) (c : Situation t) : Type 0 where
     is-gone : Gone d r c → Ended d r c
     lets-go : (a j : ℕ) → Actor d r a j → (k : ℕ) → k ≤ height t a → j ≤ k → Lets-go t a k (place (c .words) a) → Ended d r c
@@ -162,7 +162,7 @@ module _ (t : Tree) (valid : Accepted t) (bits : Sixteen-bit t) where
   unfoldable pub until-ended : (d r : ℕ) → Aim d r
   until-ended d r = record { rounds = 0; met = Ended d r; at-gone = λ c g. is-gone g; at-release = λ a j A k l b g. at-once t valid bits 0 (lets-go a j A k l b g) }
 
-  -- THE WHOLE TENURE, by the entries that are left: so many rounds for each, and then those of the aim
+  -- THE WHOLE TENURE, by the entries that are left: a number of rounds for each, and then those of the aim
   module _ (d r : ℕ) (q : Aim d r) where
     abbrev pub tenure-rest : (n : ℕ) → ℕ
     tenure-rest n = entry-rounds t * n + q .rounds

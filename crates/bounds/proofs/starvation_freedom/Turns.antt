@@ -39,24 +39,24 @@ pub data Releases (t : Tree) (i k : ℕ) (p : Place) : Type 0 where
   by-help : p ≡ Help (ancestor t i k) → k ≡ height t i → Releases t i k p
   by-raise : p ≡ Raise → k ≡ height t i → Releases t i k p
 
--- what follows on Idle: Swap at home, or what Draw does
+-- the place after Idle: Swap at home, or what follows Draw
 pub data From-idle (t : Tree) (i : ℕ) : Place → Type 0 where
   to-swap : {p : Place} → p ≡ Swap (ancestor t i 0) → From-idle t i p
   drawn-inside : {p : Place} → p ≡ Inside → From-idle t i p
   drawn-watch : {p : Place} → p ≡ Watch → 0 ≡ height t i → From-idle t i p
 
--- what follows on Swap: Inside, the next domain, or Link
+-- the place after Swap: Inside, the next domain, or Link
 pub data From-swap (t : Tree) (i k : ℕ) : Place → Type 0 where
   entered : {p : Place} → p ≡ Inside → From-swap t i k p
   alone : {p : Place} → k < height t i → Acquires t i (suc k) p → From-swap t i k p
   behind : {p : Place} (q : ℕ) → p ≡ Link (ancestor t i k) q → From-swap t i k p
 
--- what follows on Check: a pass, or the release of the parent
+-- the place after Check: a pass, or the release of the parent
 pub data From-check (t : Tree) (i k : ℕ) : Place → Type 0 where
   passes : {p : Place} (r v : ℕ) → p ≡ Grant (ancestor t i k) r v → v ≤ 65535 → From-check t i k p
   goes-up : {p : Place} → Releases t i (suc k) p → From-check t i k p
 
--- what follows on Help and Linger: Grant with the word of a release
+-- the place after Help: Cas, or Grant with the word of a release
 pub data From-help (l : ℕ) : Place → Type 0 where
   to-cas : {p : Place} → p ≡ Cas l → From-help l p
   to-grant : {p : Place} (r : ℕ) → p ≡ Grant l r (release-word l) → From-help l p
@@ -75,7 +75,7 @@ module _ (t : Tree) (valid : Accepted t) (bits : Sixteen-bit t) (c : Situation t
       place-stored i p s (c .queued .room .places-room, omega (arith, valid .few-threads)) in
       rw e q
 
-  -- by the branches of the row of its place
+  -- where its step leads, by the branches of the row
   turn : (Q : Place → Type 0) (p : Place) → place s i ≡ p → ((x : Row-result) → Branch t i s p x → Q (place (x .state) i)) → Q after
   turn Q p e by =
       let z : after ≡ place (row t i p s .state) i = ap (λ x. place x i) (next-words t valid bits c i h) ∙ ap (λ x. place (row t i x s .state) i) e in
@@ -120,7 +120,7 @@ module _ (t : Tree) (valid : Accepted t) (bits : Sixteen-bit t) (c : Situation t
       by (idle-draws y (draw-unshown _)) = drawn-watch (here Watch) (ancestor-zero t valid i h 0 (omega arith) (ancestor-home t i ∙ ticket-facts t (t .home i) y .1))
       by (idle-prepares _ (prepares _ v at)) = to-swap (here (Swap (t .home i)))
 
-  -- the next domain's place, behind Swap and Wait
+  -- the next domain's place, after Swap and Wait
   climbs : (k : ℕ) (b : k < height t i) → Acquires t i (suc k) (place-of (numbers-at (store-numbers (s .places) i (words-of (acquired-place t (ancestor t i k)))) i))
   climbs k b = lands (Acquires t i (suc k)) (acquired-place t (ancestor t i k)) (rw (ancestor-parent-of t valid i h k b) (acquires-at (suc k) b))
 

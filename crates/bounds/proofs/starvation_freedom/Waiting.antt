@@ -1,4 +1,4 @@
--- A thread that stands ungranted stands on or is granted; one that was granted its domain alone goes on with its next step.
+-- A thread that stands ungranted keeps standing or is granted; a thread that was granted only its domain goes on with its next step.
 use mathlib.Core.Path.{_≡_, sym, ap, _∙_}
 use mathlib.Core.Logic.{_≢_, inl, inr}
 use Prim.Native.Nat.{ℕ, suc, _≤_, _<_}
@@ -23,7 +23,7 @@ use Rattle.bounds.proofs.starvation_freedom.Says.{Says, says, Waiting, 
 use Rattle.bounds.proofs.starvation_freedom.Queues.{tag}
 
 module _ (t : Tree) (valid : Accepted t) (bits : Sixteen-bit t) (a : ℕ) (ha : a < t .threads) where
-  -- GRANTED THE DOMAIN at an index alone: the parent is next
+  -- GRANTED ONLY THE DOMAIN at an index: the parent is next
   pub record Woken (k : ℕ) (c : Situation t) : Type 0 where
     pub below : k < height t a
     pub there : place (c .words) a ≡ Wait (ancestor t a k)
@@ -39,7 +39,7 @@ module _ (t : Tree) (valid : Accepted t) (bits : Sixteen-bit t) (a : ℕ) (ha : 
     woken-status : (c : Situation t) → Woken k c → status (c .words) (record-at t a k) ≡ acquire-parent
     woken-status c w = status-is c w (wait-stage t valid c a ha k (let b = w .below in omega arith) (w .there))
 
-    -- another's step leaves it so
+    -- another thread's step leaves it so
     module _ (c : Situation t) (w : Woken k c) (x : ℕ) (hx : x < t .threads) (n : x ≢ a) where
       abbrev d : Situation t
       d = next t valid bits c x hx
@@ -74,7 +74,7 @@ module _ (t : Tree) (valid : Accepted t) (bits : Sixteen-bit t) (a : ℕ) (ha : 
         one-round t valid bits a ha (Woken k) (λ d. Acquires t a (suc k) (place (d .words) a))
         (λ c x h n v. inl (woken-lasts c v x h n)) (λ c h v. woken-turn t valid bits c a h k (v .below) (v .there) (woken-status c v)) w
 
-  -- UNGRANTED at an index: after a step it stands there still, was granted the lock or the domain, or is Inside
+  -- UNGRANTED at an index: after a step it still stands there, was granted the lock or the domain, or is Inside
   pub data Stood (m : ℕ) (c : Situation t) : Type 0 where
     stands-on : queues c .stage a ≡ queued m → Stood m c
     is-ready : queues c .stage a ≡ ready → Stood m c
@@ -107,7 +107,7 @@ module _ (t : Tree) (valid : Accepted t) (bits : Sixteen-bit t) (a : ℕ) (ha : 
       others-step x h n (waiting q p u f v) = waits (next t valid bits c x h) (place-other t valid bits c x h a n ∙ p)
       others-step x h n (watching p z r u) = watches (next t valid bits c x h) z (place-other t valid bits c x h a n ∙ p)
 
-      -- in Wait ungranted, the own step stays
+      -- in Wait, ungranted, the thread's own step is a stay
       own-wait : (h : a < t .threads) → place (c .words) a ≡ Wait (ancestor t a m) → Waiting t (words-in (c .words)) (queues c) a m (queues c .stage a) → Stood m (next t valid bits c a h)
       unfolding words-in tag
       own-wait h p (stands y v) = waits (next t valid bits c a h) (wait-turn t valid bits c a h m l p v)

@@ -1,4 +1,4 @@
--- The sum of the passes of some members of a domain, none twice: at most that of all but one.
+-- The sum of the passes of distinct members of a domain: at most that of all except one.
 use mathlib.Core.Path.{_≡_, refl, sym}
 use mathlib.Core.Bool.{true, _&&_, not, cond}
 use mathlib.Core.List.{List, [], _∷_}
@@ -30,7 +30,7 @@ weight-counted n f (x ∷ xs) h =
     let high = sum-grows n (λ a. count a (x ∷ xs) * f a) (λ a. is a x * f a + count a xs * f a) (λ a b. omega (arith, split a)) in
     omega arith
 
--- members of a domain, none twice, and one of them not
+-- members of a domain, none twice, and without one of them
 pub weight-others :
     (t : Tree) (d m : ℕ) (xs : List ℕ) → ((a : ℕ) → 1 ≤ count a xs → (a < 320) × (is-member t d a ≡ true) × (a ≢ m)) → ((a : ℕ) → count a xs ≤ 1) →
     weight (passes t) xs ≤ others-passes t d m

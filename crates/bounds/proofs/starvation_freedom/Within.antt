@@ -1,4 +1,4 @@
--- What holds at some situation within so many rounds, and how such claims are put one after the other.
+-- What holds in some situation within a number of rounds, and how such statements are combined.
 use mathlib.Core.Path.{_≡_, refl, sym, ap, _∙_}
 use mathlib.Core.List.{List, [], _∷_, _++_, append-assoc}
 use mathlib.Core.Logic.{_≢_, _⊎_, inl, inr}
@@ -23,7 +23,7 @@ unfolding All-threads
 threads-left t [] ys a = tt
 threads-left t (x ∷ xs) ys a = (a .0, threads-left t xs ys (a .1))
 
--- ROUNDS with anything after them
+-- ROUNDS, with any entries after them
 abbrev pub Everyone : Tree → List ℕ → Type 0
 Everyone t r = (i : ℕ) → i < t .threads → 1 ≤ occurrences i r
 
@@ -67,7 +67,7 @@ covers-split t (suc a) b S c = by (λ S′ d. covers-split t a b S′ d) (let z 
         }
 
 module _ (t : Tree) (valid : Accepted t) (bits : Sixteen-bit t) where
-  -- somewhere along a schedule
+  -- P holds somewhere along a schedule
   pub data Reaches (P : Situation t → Type 0) : List ℕ → Situation t → Type 0 where
     now : {S : List ℕ} {c : Situation t} → P c → Reaches P S c
     later : {S : List ℕ} {c : Situation t} (x : ℕ) (h : x < t .threads) → Reaches P S (next t valid bits c x h) → Reaches P (x ∷ S) c
@@ -75,7 +75,7 @@ module _ (t : Tree) (valid : Accepted t) (bits : Sixteen-bit t) where
   abbrev pub Within : (rounds : ℕ) → (Situation t → Type 0) → Situation t → Type 0
   Within n P c = (S : List ℕ) → All-threads t S → Covers t n S → Reaches P S c
 
-  -- ONE CLAIM BEHIND ANOTHER, for every kind of claim that lasts to earlier situations
+  -- ONE CLAIM AFTER ANOTHER, for every kind of claim that carries over to earlier situations
   module _ (P : Situation t → Type 0) (E : List ℕ → Situation t → Type 0) (longer : (S : List ℕ) (c : Situation t) (x : ℕ) (h : x < t .threads) → E S (next t valid bits c x h) → E (x ∷ S) c)
       (b : ℕ) (goes-on : (c : Situation t) → P c → (S : List ℕ) → All-threads t S → Covers t b S → E S c) where
     continue : (xs S : List ℕ) (c : Situation t) → Reaches P xs c → All-threads t (xs ++ S) → Covers t b S → E (xs ++ S) c
@@ -105,7 +105,7 @@ module _ (t : Tree) (valid : Accepted t) (bits : Sixteen-bit t) where
   pub within-map : {P Q : Situation t → Type 0} (n : ℕ) {c : Situation t} → ((c′ : Situation t) → P c′ → Q c′) → Within n P c → Within n Q c
   within-map n f w S all cov = reaches-map f (w S all cov)
 
-  -- ONE ROUND: what lasts until a thread's step, and what that step makes of it
+  -- ONE ROUND: what lasts until a thread's step, and what holds after that step
   module _ (a : ℕ) (ha : a < t .threads) (P Q : Situation t → Type 0)
       (others : (c : Situation t) (x : ℕ) (h : x < t .threads) → x ≢ a → P c → P (next t valid bits c x h) ⊎ Q (next t valid bits c x h))
       (own : (c : Situation t) (h : a < t .threads) → P c → Q (next t valid bits c a h)) where
@@ -127,7 +127,7 @@ module _ (t : Tree) (valid : Accepted t) (bits : Sixteen-bit t) where
         let all′ : All-threads t (r ++ S′) = rw e at all in
         rw e (walk r S′ c (every a ha) all′ p)
 
-  -- WHAT LASTS MEANWHILE, unless something else comes first
+  -- WHAT LASTS UNTIL THEN, unless something else happens first
   module _ (I Z : Situation t → Type 0) (lasts : (c : Situation t) (x : ℕ) (h : x < t .threads) → I c → I (next t valid bits c x h) ⊎ Z (next t valid bits c x h)) where
     reaches-lasting : {Q : Situation t → Type 0} {S : List ℕ} {c : Situation t} → Reaches Q S c → I c → Reaches (λ d. (Q d × I d) ⊎ Z d) S c
     reaches-lasting (now q) i = now (inl (q, i))

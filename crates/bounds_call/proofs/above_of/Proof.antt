@@ -1,4 +1,4 @@
--- `bounds_call::above_of` meets its contract: one round at the root, and elsewhere the rounds of the own record.
+-- `bounds_call::above_of` meets its contract: one round at the root, elsewhere the rounds of the own record.
 use native.Mathlib.Omega.{arith}
 use borrow.Author.Needs.{needs}
 use Rattle.model.proofs.Trees.Reading.{few-domains}

@@ -1,4 +1,4 @@
--- `bounds_call::above_words` meets its contract: the words of the domains passed are the rounds above them.
+-- `bounds_call::above_words` meets its contract: the words of the domains so far are the rounds above them.
 use borrow.Author.Needs.{needs}
 use mathlib.Core.Path.{_≡_, refl}
 use Prim.Native.Nat.{_≤_, _-_}

@@ -1,4 +1,4 @@
--- `bounds_call::acquire_of` meets its contract: the definition's sums and products in order; cut one by one, they come to the whole, cut.
+-- `bounds_call::acquire_of` meets its contract: the definition's sums and products in order; capped one by one, they give the capped whole.
 use native.Mathlib.Omega.{arith}
 use borrow.Author.Needs.{needs}
 use Rattle.model.proofs.Trees.Reading.{few-domains}
@@ -7,7 +7,7 @@ use Rattle.bounds_call.proofs.RoundWords.{counts-few, acquire-word}
 use Rattle.bounds_call.proofs.acquire_of.Statement.{statement}
 use Rattle.bounds_call.proofs.acquire_of.Tie as tie
 
--- the positions in the code
+-- earlier points of the code
 abbrev sized : tie.After-members-of → tie.After-tenure-length
 sized c = c .before
 

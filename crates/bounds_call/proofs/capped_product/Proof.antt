@@ -1,4 +1,4 @@
--- `bounds_call::capped_product` meets its contract: the product is beyond 64 bits exactly where the quotient is too small.
+-- `bounds_call::capped_product` meets its contract: the product exceeds 64 bits exactly if the quotient is too small.
 use mathlib.Core.Path.{sym}
 use Prim.Native.Nat.{_<_}
 use native.Mathlib.Omega.{arith}

@@ -1,4 +1,4 @@
--- `bounds_call::capped_sum` meets its contract: the sum is beyond 64 bits exactly where the difference is too small.
+-- `bounds_call::capped_sum` meets its contract: the sum exceeds 64 bits exactly if the difference is too small.
 use borrow.Author.Needs.{needs}
 use Rattle.bounds.specs.Answers.{capped}
 use Rattle.bounds_call.proofs.capped_sum.Statement.{statement}

@@ -1,4 +1,4 @@
--- `bounds_call::everyone` meets its contract: the largest of the rounds of the threads passed.
+-- `bounds_call::everyone` meets its contract: the largest of the rounds of the threads so far.
 use mathlib.Core.Path.{_≡_, refl}
 use Prim.Native.Nat.{_+_, _≤_, _-_}
 use native.Mathlib.Omega.{arith}

@@ -1,4 +1,4 @@
--- `bounds_call::level_of` meets its contract: the levels passed and those above make the level.
+-- `bounds_call::level_of` meets its contract: the levels so far and those above add up to the level.
 use mathlib.Core.Path.{_≡_}
 use Prim.Native.Nat.{_+_, _≤_, _<_}
 use native.Mathlib.Omega.{arith}

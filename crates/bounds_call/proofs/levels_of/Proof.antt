@@ -1,4 +1,4 @@
--- `bounds_call::levels_of` meets its contract: the largest level of the domains passed.
+-- `bounds_call::levels_of` meets its contract: the largest level of the domains so far.
 use mathlib.Core.Path.{_≡_, refl}
 use Prim.Native.Nat.{_≤_, _-_}
 use native.Mathlib.Omega.{arith}

@@ -1,4 +1,4 @@
--- `bounds_call::tenure_length` meets its contract: 1 at the root, and elsewhere the threshold as far as it has an effect.
+-- `bounds_call::tenure_length` meets its contract: 1 at the root, elsewhere the effective threshold.
 use mathlib.Core.Path.{refl}
 use native.Mathlib.Omega.{arith}
 use borrow.Author.Needs.{needs}

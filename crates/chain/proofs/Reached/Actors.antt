@@ -1,4 +1,4 @@
--- In a state reached from fresh: who acts for which record of a queue, and what a thread's next step being a stay says of its place.
+-- In a state reached from fresh: who acts for which record of a queue, and what a thread's place is if its next step is a stay.
 use mathlib.Core.Path.{_≡_, refl, sym, ap, _∙_}
 use mathlib.Core.Bool.{true, false, false≢true}
 use mathlib.Core.Logic.{_≢_}
@@ -36,7 +36,7 @@ use Rattle.claims.proofs.Claims.Moving.{woken-moves, ready-moves, shown-moves}
 use Rattle.chain.specs.Chain.{stays}
 use Rattle.chain.proofs.Stays.{stays-at, linger-stays, moves-on}
 
--- a thread whose next step is a stay, by the row of its place
+-- a thread's next step is a stay exactly if the row of its place is one
 pub row-stays : (t : Tree) (s : WordState) (i : ℕ) → stays t s i ≡ true → row t i (place s i) s .kind ≡ stay
 unfolding stays step
 row-stays t s i e = stay-named (row t i (place s i) s .kind) e
@@ -45,7 +45,7 @@ pub stays-row : (t : Tree) (s : WordState) (i : ℕ) → row t i (place s i) s .
 unfolding stays step is-kind
 stays-row t s i e = rw e refl
 
--- where a place is on the thread's path
+-- the place is on the thread's path
 pub record Placed (t : Tree) (g : State) (i : ℕ) (p : Place) (x : Stage) : Type 0 where
   pub index : ℕ
   pub within : index ≤ height t i
@@ -87,7 +87,7 @@ module _ (t : Tree) (valid : Accepted t) (bits : Sixteen-bit t) (s : WordState) 
   abbrev pub inv : Inv t g
   inv = q .represents .invariant
 
-  -- WAITING, by place: a stay stands after another, with whom it is known
+  -- WAITING, by place: a thread whose next step is a stay is after another member, lingers, or watches
   pub data Waits (i : ℕ) : Place → Type 0 where
     waits : (k p : ℕ) → k ≤ height t i → g .stage i ≡ queued k → is-ticket t (ancestor t i k) ≡ false → after (g .queue (ancestor t i k)) p ≡ suc (record-at t i k) →
         next s p ≡ suc (record-at t i k) → status s (record-at t i k) ≡ waiting-word (ancestor t i k) → Waits i (Wait (ancestor t i k))
@@ -128,7 +128,7 @@ module _ (t : Tree) (valid : Accepted t) (bits : Sixteen-bit t) (s : WordState) 
     unfolding words-in
     stay-waits = waits-at refl refl (q .facts .places i .used h) (q .represents .fits i h)
 
-  -- WHO ACTS for a record
+  -- WHICH THREAD ACTS for a record
   pub same-thread : (b c n m : ℕ) → n < moves.acts (height t b) (g .stage b) → m < moves.acts (height t c) (g .stage c) → record-at t b n ≡ record-at t c m → b ≡ c
   same-thread b c n m x y e = unique t (laws t valid) g inv b c n m x y e .0
 
@@ -155,7 +155,7 @@ module _ (t : Tree) (valid : Accepted t) (bits : Sixteen-bit t) (s : WordState) 
   pub queued-there : (d b : ℕ) (a : Acting t valid bits s q d (own-record t b d) b) → 1 ≤ count (own-record t b d) (g .queue d)
   queued-there d b a = rw (a .mine, a .there) at (in-queue t valid bits s q b (a .index) (a .within))
 
-  -- whoever acts ahead of a record stands just before it
+  -- a thread that acts for a record whose next is r acts for the record just before r
   pub stands-before : (d r b : ℕ) → is-ticket t d ≡ false → b < t .threads → acts t s b d ≡ true → next s (own-record t b d) ≡ suc r → after (g .queue d) (own-record t b d) ≡ suc r
   unfolding words-in
   stands-before d r b nt h e n =

@@ -1,4 +1,4 @@
--- In a state reached from fresh, a thread whose next step is a stay looks to exactly one thread.
+-- In a state reached from fresh, a thread whose next step is a stay waits for exactly one thread.
 use mathlib.Core.Path.{_≡_, refl, sym, ap, _∙_}
 use mathlib.Core.Bool.{true, false, false≢true}
 use mathlib.Core.List.{List, [], _∷_}
@@ -41,7 +41,7 @@ use Rattle.chain.specs.Chain.{stays, acts-ahead, links, ticket-before, a
 use Rattle.chain.proofs.Reached.Orders.{Once, after-same, just-before, ticket-next, ticket-same}
 use Rattle.chain.proofs.Reached.Actors.{Waits, waits, lingers, watches, stay-waits, same-thread, acting-there, actor, queued-there, stands-before}
 
--- a place in Link with a record
+-- a place that is Link with a record
 pub link-place : (p : Place) (r : ℕ) → links p r ≡ true → (l : ℕ) × (p ≡ Link l r)
 link-place (Link l p) r e = (l, ap (Link l) (eqb-true p r e))
 link-place Idle r e = absurd (false≢true e)
@@ -69,7 +69,7 @@ module _ (t : Tree) (valid : Accepted t) (bits : Sixteen-bit t) (s : WordState) 
   abbrev pub inv : Inv t g
   inv = q .represents .invariant
 
-  -- a thread in Link with a record: who it stands behind
+  -- a thread in Link with a record is after that record
   pub record Linking (j r : ℕ) : Type 0 where
     pub index : ℕ
     pub acting : index < moves.acts (height t j) (g .stage j)
@@ -85,7 +85,7 @@ module _ (t : Tree) (valid : Accepted t) (bits : Sixteen-bit t) (s : WordState) 
   once : (d : ℕ) → Once (g .queue d)
   once d a = inv .once d a
 
-  -- THE ONE THREAD LOOKED TO, and why
+  -- THE ONE THREAD THAT A THREAD WAITS FOR
   pub record Looked (i j : ℕ) : Type 0 where
     pub real : j < t .threads
     pub looked : looked-to t s i (place s i) j ≡ true
@@ -95,7 +95,7 @@ module _ (t : Tree) (valid : Accepted t) (bits : Sixteen-bit t) (s : WordState) 
   One i p = (j : ℕ) × (j < t .threads) × (looked-to t s i p j ≡ true) × ((k : ℕ) → k < t .threads → looked-to t s i p k ≡ true → k ≡ j)
 
   module _ (i : ℕ) (h : i < t .threads) where
-    -- in Wait: whoever acts for the record just before
+    -- in Wait: the thread that acts for the record just before
     wait-one : (k p : ℕ) → k ≤ height t i → is-ticket t (ancestor t i k) ≡ false → after (g .queue (ancestor t i k)) p ≡ suc (record-at t i k) → next s p ≡ suc (record-at t i k) →
         One i (Wait (ancestor t i k))
     unfolding looked-to acts-ahead
@@ -116,7 +116,7 @@ module _ (t : Tree) (valid : Accepted t) (bits : Sixteen-bit t) (s : WordState) 
               same-thread t valid bits s q j (b .thread) (x .index) (b .index) (x .within) (b .within) (x .mine ∙ same ∙ sym (b .mine)),
         )
 
-    -- in Linger: the thread behind, which is in Link
+    -- in Linger: the thread of the member after it, which is in Link
     module _ (k : ℕ) (nt : is-ticket t (ancestor t i k) ≡ false) (first-there : k < low (height t i) (g .stage i)) (n : w .tails (ancestor t i k) ≢ suc (record-at t i k))
         (l : k ≤ height t i) (quiet : next s (record-at t i k) ≡ 0) where
       abbrev d : ℕ
@@ -165,7 +165,7 @@ module _ (t : Tree) (valid : Accepted t) (bits : Sixteen-bit t) (s : WordState) 
           let real : b .thread < t .threads = inv .threads (b .thread) .real (rw (b .waits) (omega arith)) in
           after-one (two .0) (two .1) (two .2) b real (ungranted (b .index) (b .waits) (q .represents .fits (b .thread) real))
 
-    -- in Watch: whoever acts for the member with the ticket just before
+    -- in Watch: the thread that acts for the member with the ticket just before
     module _ (stands : g .stage i ≡ queued (height t i)) (root : t .ticket-root ≡ true) where
       abbrev pub mine : ℕ
       mine = record-at t i (height t i)

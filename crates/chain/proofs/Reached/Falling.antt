@@ -1,4 +1,4 @@
--- Along a chain a number falls: by domain, and in one queue by how far after the first a member stands. So no chain comes back.
+-- Along a chain a number decreases: by domain, and within one queue by the distance from the first. So no chain returns to a thread.
 use mathlib.Core.Path.{_≡_, refl, sym, ap, _∙_}
 use mathlib.Core.Bool.{Bool, true, false, _||_, not, cond, false≢true}
 use mathlib.Core.Logic.{inl, inr}
@@ -32,7 +32,7 @@ use Rattle.chain.proofs.Reached.Orders.{position, position-small, posit
 use Rattle.chain.proofs.Reached.Actors.{Waits, waits, lingers, watches, stay-waits, stands-before}
 use Rattle.chain.proofs.Reached.Ahead.{link-place, watch-before}
 
--- a status that stays sends nobody Inside
+-- a status that stays does not send a thread Inside
 stays-not-sent : (l v : ℕ) → waits-in l v ≡ true → sends-inside l v ≡ false
 unfolding sends-inside
 stays-not-sent l v e = by (eqb l 0) refl
@@ -66,7 +66,7 @@ module _ (t : Tree) (valid : Accepted t) (bits : Sixteen-bit t) (s : WordState) 
   rank-at i Raise = 0
   rank-at i Invalid = 0
 
-  -- 0 where the next step is not a stay
+  -- 0 if the thread's next step is not a stay
   unfoldable pub rank : (thread : ℕ) → ℕ
   rank i = cond (stays t s i) (rank-at i (place s i)) 0
 
@@ -118,7 +118,7 @@ module _ (t : Tree) (valid : Accepted t) (bits : Sixteen-bit t) (s : WordState) 
       by true z = rw z (bounded b hb z d (place s b) refl (stay-waits t valid bits s q b hb z) (and-both (on-path t b d) (acts-at t s b (place s b) d) e .1))
       by false z = rw z (omega arith)
 
-  -- A LINK FALLS
+  -- ALONG A LINK the number decreases
   module _ (a b : ℕ) (ha : a < t .threads) (hb : b < t .threads) (still : stays t s a ≡ true) where
     link-falls : (p : Place) → good-place t a p ≡ true → Waits t valid bits s q a p → looked-to t s a p b ≡ true → rank b < rank-at a p
     unfolding looked-to acts-ahead acts-holding rank-at good-place may-stay

@@ -1,4 +1,4 @@
--- While the thread ahead takes no step, the one after it can only stay: a step of any other thread leaves the link as it is.
+-- A thread stays as long as the thread ahead of it does not step: a step of any other thread does not change the link.
 use mathlib.Core.Path.{_≡_, refl, sym, ap, _∙_}
 use mathlib.Core.Bool.{true, false, _||_, false≢true}
 use mathlib.Core.Logic.{_≢_}
@@ -57,7 +57,7 @@ module _ (t : Tree) (valid : Accepted t) (bits : Sixteen-bit t) (s : WordState) 
   abbrev inv : Inv t g
   inv = q .represents .invariant
 
-  -- a thread in Grant stands just before the member that it grants
+  -- a thread in Grant acts for the record just before the member that it grants
   record Granting (c l r : ℕ) : Type 0 where
     index : ℕ
     there : ancestor t c index ≡ l
@@ -78,7 +78,7 @@ module _ (t : Tree) (valid : Accepted t) (bits : Sixteen-bit t) (s : WordState) 
         names = y .3;
       }
 
-  -- so in its queue the member is after the first
+  -- so that member is not the first of its queue
   pub record Granted (c r : ℕ) : Type 0 where
     pub index : ℕ
     pub acting : index < moves.acts (height t c) (g .stage c)
@@ -99,7 +99,7 @@ module _ (t : Tree) (valid : Accepted t) (bits : Sixteen-bit t) (s : WordState) 
           behind = sym (q .represents .linked (ancestor t c (x .index)) nt .chain (record-at t c (x .index)) (in-queue t valid bits s q c (x .index) (x .acting)) (λ z. let y = x .names in omega arith)) ∙ x .names;
         }
 
-    -- words of other threads' records
+    -- the words of other threads' records
     abbrev pub after-step : WordState
     after-step = row t c (place s c) s .state
 
@@ -116,7 +116,7 @@ module _ (t : Tree) (valid : Accepted t) (bits : Sixteen-bit t) (s : WordState) 
     next-same : (j m : ℕ) → j < t .threads → j ≢ c → m ≤ low (height t j) (g .stage j) → (Linking t valid bits s q c (record-at t j m) → ⊥) → next after-step (record-at t j m) ≡ next s (record-at t j m)
     next-same j m hj n b never = next-kept t s c (record-at t j m) (place s c) (far j m hj n b) (λ l e. never (linking-there t valid bits s q c l (record-at t j m) hc e))
 
-    -- nobody grants a member that is first
+    -- no thread grants a member that is first
     pub not-first : (j m : ℕ) → m < low (height t j) (g .stage j) → Granted c (record-at t j m) → ⊥
     not-first j m b x =
         let r = record-at t j m in
@@ -127,7 +127,7 @@ module _ (t : Tree) (valid : Accepted t) (bits : Sixteen-bit t) (s : WordState) 
         let f′ : first (g .queue d) ≡ suc r = rw same at f in
         omega (arith, first-count r (g .queue d) f′, inv .once d r)
 
-    -- a thread that acts at a domain goes on acting there
+    -- a thread that acts at a domain keeps acting there
     module _ (b d : ℕ) (hb : b < t .threads) (n : b ≢ c) (acting : acts t s b d ≡ true) where
       same-place : place after-step b ≡ place s b
       same-place = place-kept t s c b n (place s c)
@@ -170,7 +170,7 @@ module _ (t : Tree) (valid : Accepted t) (bits : Sixteen-bit t) (s : WordState) 
           let both = and-both (on-path t b d) (acts-at t s b (place s b) d) acting in
           rw (same-place, both .0) (still-acts (place s b) (placed t valid w g b hb (q .represents .fits b hb)) (both .1))
 
-    -- THE LINK IS KEPT: the thread a behind, the thread b ahead, a step of c
+    -- THE LINK IS KEPT: thread a waits for thread b, and thread c steps
     module _ (a b : ℕ) (ha : a < t .threads) (hb : b < t .threads) (ca : a ≢ c) (cb : b ≢ c) where
       abbrev Kept : Place → Type 0
       Kept p = looked-to t s a p b ≡ true → stays t s a ≡ true → (stays t after-step a ≡ true) × (looked-to t after-step a p b ≡ true)
@@ -178,7 +178,7 @@ module _ (t : Tree) (valid : Accepted t) (bits : Sixteen-bit t) (s : WordState) 
       place-a : place after-step a ≡ place s a
       place-a = place-kept t s c a ca (place s c)
 
-      -- the record of a thread that acts at a domain
+      -- the index of a thread that acts at a domain
       acting-low : (d : ℕ) (x : Acting t valid bits s q d (own-record t b d) b) → x .index ≤ low (height t b) (g .stage b)
       acting-low d x = omega (arith, x .within, acts-low (height t b) (g .stage b))
 
@@ -237,7 +237,7 @@ module _ (t : Tree) (valid : Accepted t) (bits : Sixteen-bit t) (s : WordState) 
         abbrev ahead : Acting t valid bits s q 0 (own-record t b 0) b
         ahead = acting-there t valid bits s q 0 b hb (both .0)
 
-        -- members of a ticket lock are granted by nobody
+        -- no thread grants a member of a ticket lock
         not-granted-root : (r : ℕ) → 1 ≤ count r (g .queue 0) → Granted c r → ⊥
         not-granted-root r m gr =
             let d = ancestor t c (gr .index) in
@@ -256,7 +256,7 @@ module _ (t : Tree) (valid : Accepted t) (bits : Sixteen-bit t) (s : WordState) 
         ahead-status =
             rw (← ahead .mine) (status-same b (ahead .index) hb cb (acting-low 0 ahead) (not-granted-root (record-at t b (ahead .index)) (rw (ahead .mine) (queued-there t valid bits s q 0 b ahead))))
 
-        -- whoever raises the grant to this ticket has the one just before
+        -- a thread that raises the grant to this ticket has the ticket just before
         raised-other : place s c ≡ Raise → v ≢ wrap (s .grant + 1)
         unfolding words-in Says low
         raised-other e z =

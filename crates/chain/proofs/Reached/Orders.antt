@@ -1,4 +1,4 @@
--- Queues as lists: who stands just before a member, how far after the first it stands, and which ticket it holds.
+-- Queues as lists: who is just before a member, how far it is from the first, and which ticket it has.
 use mathlib.Core.Path.{_≡_, refl, sym, ap, _∙_}
 use mathlib.Core.Bool.{cond}
 use mathlib.Core.List.{List, [], _∷_}
@@ -21,7 +21,7 @@ Once q = (a : ℕ) → count a q ≤ 1
 once-rest : (x : ℕ) (xs : List ℕ) → Once (x ∷ xs) → Once xs
 once-rest x xs o a = omega (arith, o a, count-cons a x xs)
 
--- WHO STANDS JUST BEFORE: at most one
+-- THE MEMBER JUST BEFORE ANOTHER: at most one
 pub after-same : (q : List ℕ) (a b r : ℕ) → after q a ≡ suc r → after q b ≡ suc r → Once q → a ≡ b
 after-same [] a b r e f o = absurd (omega (arith, after-nil a))
 after-same (x ∷ xs) a b r e f o =
@@ -33,7 +33,7 @@ after-same (x ∷ xs) a b r e f o =
     (λ z. same-or b x _ (λ y. absurd (later a z e (sym (after-here b x xs y) ∙ f)))
     (λ y. after-same xs a b r (sym (after-past a x xs z) ∙ e) (sym (after-past b x xs y) ∙ f) (once-rest x xs o)))
 
--- and one, for whoever is after the first
+-- and exactly one for a member after the first
 pub just-before : (q : List ℕ) (r : ℕ) → 1 ≤ count r (rest q) → Once q → (p : ℕ) × (after q p ≡ suc r)
 unfolding rest
 just-before [] r h o = absurd (omega (arith, count-nil r))
@@ -48,7 +48,7 @@ just-before (x ∷ xs) r h o = by (just-before xs r) xs refl
         let c = after-in xs (y .0) r (y .1) in
         (y .0, after-past (y .0) x xs (λ v. let u : 1 ≤ count x xs = rw v at c in omega (arith, o x, count-cons x x xs, is-same x x refl)) ∙ y .1))
 
--- HOW FAR BEHIND THE FIRST
+-- THE DISTANCE FROM THE FIRST
 unfoldable pub position : (member : ℕ) → List ℕ → ℕ
 position r [] = 0
 position r (x ∷ xs) = cond (eqb r x) 0 (suc (position r xs))
@@ -82,7 +82,7 @@ position-next (x ∷ xs) p r e o =
     first-position r [] f = absurd (omega (arith, first-nil))
     first-position r (y ∷ ys) f = position-here r y ys (let z = first-cons y ys in omega arith)
 
--- TICKETS: the one just before, and different ones for different members
+-- TICKETS: those of neighbours are consecutive, and different members have different ones
 pub ticket-next : (f : ℕ → ℕ) (v b p r : ℕ) (q : List ℕ) → Tickets f v b q → after q p ≡ suc r → f r ≡ wrap (f p + 1)
 unfolding Tickets
 ticket-next f v b p r [] h e = absurd (omega (arith, after-nil p))

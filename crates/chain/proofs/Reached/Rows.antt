@@ -1,4 +1,4 @@
--- What a row of the step table leaves alone: the places of other threads, the words of other records, the grant.
+-- What a row of the step table does not change: the places of other threads, the words of other records, the grant.
 use mathlib.Core.Path.{_≡_, refl, sym, ap}
 use mathlib.Core.Bool.{true}
 use mathlib.Core.Logic.{_≢_}
@@ -20,15 +20,15 @@ use Rattle.model.proofs.Trees.Tickets.{ticket-facts}
 use Rattle.model.proofs.Places.{numbers-other}
 
 module _ (t : Tree) (s : State) (c : ℕ) where
-  -- the own record at a place's domain
+  -- the thread's own record at a place's domain
   abbrev own : Place → ℕ
   own p = own-record t c (place-domain (t .home c) p)
 
-  -- a record that is not the own one where a row sets the own next to none: in Prep, and from Idle at home
+  -- a record other than the one whose next the row sets to none: in Prep, and from Idle at home
   abbrev pub Unprepared : Place → (record-number : ℕ) → Type 0
   Unprepared p r = ((l : ℕ) → p ≡ Prep l → own-record t c l ≢ r) × (p ≡ Idle → own-record t c (t .home c) ≢ r)
 
-  -- what a row of thread c leaves alone: the places of others; the status and the next of other records than the own one there, the one that is granted and the one in Link; the grant, but for Raise
+  -- what a row of thread c does not change: the places of other threads; status and next of all records but its own there, the granted one and the one in Link; the grant, except in Raise
   record Leaves (p : Place) (n : State) : Type 0 where
     places : (j : ℕ) → j ≢ c → place n j ≡ place s j
     statuses : (r : ℕ) → r ≢ own p → ((l w : ℕ) → p ≢ Grant l r w) → status n r ≡ status s r
@@ -43,7 +43,7 @@ module _ (t : Tree) (s : State) (c : ℕ) where
   unmoved : (p : Place) → Leaves p s
   unmoved p = record { places = λ j n. refl; statuses = λ r n g. refl; nexts = λ r n g. refl; next-some = λ r h u n. n; grant = λ g. refl }
 
-  -- only a place, a tail or the ticket are stored
+  -- only a place, a tail or the ticket is stored
   placed : (p q : Place) {n : State} → n .places ≡ store-numbers (s .places) c (words-of q) → n .statuses ≡ s .statuses → n .nexts ≡ s .nexts → n .grant ≡ s .grant → Leaves p n
   placed p q e f h k =
       record {
@@ -54,7 +54,7 @@ module _ (t : Tree) (s : State) (c : ℕ) where
         grant = λ g. k;
       }
 
-  -- and the own status
+  -- and the thread's own status
   marked : (p q : Place) (v : ℕ) {n : State} → n .places ≡ store-numbers (s .places) c (words-of q) → n .statuses ≡ set (s .statuses) (own p) v → n .nexts ≡ s .nexts → n .grant ≡ s .grant → Leaves p n
   marked p q v e f h k =
       record {
@@ -65,7 +65,7 @@ module _ (t : Tree) (s : State) (c : ℕ) where
         grant = λ g. k;
       }
 
-  -- and the own next
+  -- and the thread's own next
   readied : (p q : Place) (v : ℕ) {n : State} → ((r : ℕ) → Unprepared p r → own p ≢ r) → n .places ≡ store-numbers (s .places) c (words-of q) → n .statuses ≡ set (s .statuses) (own p) v → n .nexts ≡ set (s .nexts) (own p) none → n .grant ≡ s .grant → Leaves p n
   readied p q v apart e f h k =
       record {
@@ -76,7 +76,7 @@ module _ (t : Tree) (s : State) (c : ℕ) where
         grant = λ g. k;
       }
 
-  -- a draw from Idle is at home, which is the root
+  -- a draw from Idle is at home, and the home is the root
   at-home : (v : ℕ) → is-ticket t (t .home c) ≡ true → set (s .statuses) (own-record t c 0) v ≡ set (s .statuses) (own Idle) v
   at-home v z = ap (λ l. set (s .statuses) (own-record t c l) v) (sym (ticket-facts t (t .home c) z .1))
 
@@ -147,7 +147,7 @@ module _ (t : Tree) (s : State) (c : ℕ) where
   pub grant-kept : (p : Place) → p ≢ Raise → row t c p s .state .grant ≡ s .grant
   grant-kept p g = row-leaves p .grant g
 
-  -- Raise counts it
+  -- Raise increases the grant
   pub raise-grant : row t c Raise s .state .grant ≡ wrap (s .grant + 1)
   raise-grant = by (branch t c s Raise)
     where

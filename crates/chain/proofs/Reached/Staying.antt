@@ -1,4 +1,4 @@
--- While the thread ahead takes no step, the one after it can only stay: along every schedule without it.
+-- A thread stays as long as the thread ahead of it does not step: along every schedule without that thread.
 use mathlib.Core.Path.{_≡_, sym, ap, _∙_}
 use mathlib.Core.Bool.{true, cond}
 use mathlib.Core.List.{List, [], _∷_}

@@ -1,4 +1,4 @@
--- From fresh every thread has its chain, which explains why it waits.
+-- In states reached from fresh every thread has a chain, which explains why it waits.
 use mathlib.Core.Path.{_≡_, refl, sym, ap, _∙_}
 use mathlib.Core.Bool.{Bool, true, false, cond, false≢true}
 use mathlib.Core.List.{List, [], _∷_, _++_, nil≢cons, head-eq-of-cons-eq, tail-eq-of-cons-eq}
@@ -28,7 +28,7 @@ use Rattle.chain.proofs.Reached.Ahead.{Looked, looked-one, looks-one}
 use Rattle.chain.proofs.Reached.Falling.{rank, falls}
 use Rattle.chain.proofs.Reached.Staying.{only-stays}
 
--- THE LINKS of a list with one thread more: those it had, and the last
+-- THE LINKS of a list with one more thread: those it had, and the last
 abbrev Is-link : List ℕ → (behind ahead : ℕ) → Type 0
 Is-link c a b = (before : List ℕ) × (after : List ℕ) × (c ≡ before ++ (a ∷ b ∷ after))
 
@@ -58,7 +58,7 @@ module _ (t : Tree) (ok : tree-refusal t .number ≡ 0) (bits : Sixteen-bit t) (
   abbrev number : ℕ → ℕ
   number i = rank t valid bits s q i
 
-  -- a chain so far, from the start to its last
+  -- a chain so far, from its start to its last thread
   record So-far (c : List ℕ) (i : ℕ) : Type 0 where
     more : List ℕ
     itself-first : c ≡ start ∷ more
@@ -148,7 +148,7 @@ module _ (t : Tree) (ok : tree-refusal t .number ≡ 0) (bits : Sixteen-bit t) (
   unfolding chain
   explains h = explained (t .threads) (start ∷ []) start (first-one h) (omega arith)
 
--- a chain that explains is not empty
+-- a chain that begins with its thread is not empty
 not-empty : (c more : List ℕ) (i : ℕ) → c ≡ i ∷ more → length c ≢ 0
 not-empty c more i e z = let y : suc (length more) ≡ 0 = sym (ap length e) ∙ z in omega arith
 

@@ -1,4 +1,4 @@
--- `chain_call::copy_front` meets its contract: so many are copied.
+-- `chain_call::copy_front` meets its contract: the elements so far are copied.
 use Prim.Native.Nat.{_≤_, _-_}
 use native.Mathlib.Omega.{arith}
 use Rattle.chain_call.proofs.Copying.{Copied, copied-first, copied-next, copied-all, copied-length}

@@ -1,4 +1,4 @@
--- In a list, a call that names the tree and existing threads, with room, is accepted; and a run on a lock of its own is a list.
+-- In a list, a call that names the tree and existing threads, with a trace buffer long enough, is accepted; and a run on its own lock is a list.
 use mathlib.Core.Path.{_≡_, refl, ap, _∙_}
 use mathlib.Core.Bool.{true}
 use mathlib.Core.List.{List, [], _∷_, _++_, append-assoc, append-nil}
@@ -22,7 +22,7 @@ use Rattle.claims.proofs.Claims.Calls.{reached, starts-here, returned, 
 use Rattle.claims.proofs.Claims.Demand.{demand-three}
 use Rattle.model.proofs.Trees.Accepted.{sixteen-bit}
 
--- the state that the last call returned is the table's after the list's schedule
+-- the last state returned is the table's after the list's schedule
 pub last-reached :
     (t : Tree) (f : LockState) (cs : List Call) (pre : List ℕ) (s : LockState) → s ≡ reached t f pre → Names t cs s →
     last-state cs s ≡ reached t f (pre ++ joined cs s)

@@ -44,7 +44,7 @@ module _ (t : Tree) (valid : Accepted t) (i : ℕ) (h : i < t .threads) (n : ℕ
   everywhere : true ≡ ltb n (suc (height t i))
   everywhere = sym (lt-ltb n (suc (height t i)) (omega arith))
 
-  -- the words that send a thread in Wait inside
+  -- the waiting word and ACQUIRE_PARENT do not send a thread in Wait inside
   stays-out : (k v : ℕ) → v ≡ waiting-word (ancestor t i k) → sends-inside (ancestor t i k) v ≡ false
   unfolding sends-inside
   stays-out k v e = by (eqb (ancestor t i k) 0) refl
@@ -59,7 +59,7 @@ module _ (t : Tree) (valid : Accepted t) (i : ℕ) (h : i < t .threads) (n : ℕ
       let p = ancestor-inner t valid i h k b in
       rw (ne-eqb (ancestor t i k) 0 (omega arith)) (le-ltb v acquire-parent (omega arith))
 
-  -- a word at most 16 bits wide, or UNLOCKED at the root, sends it
+  -- a 16-bit word, or UNLOCKED at the root, does
   goes-in : (k v : ℕ) → k ≤ height t i → (k ≡ height t i → v ≡ 0) → (k < height t i → v ≤ 65535) → sends-inside (ancestor t i k) v ≡ true
   unfolding sends-inside
   goes-in k v l a b = by (eqb (ancestor t i k) 0) refl

@@ -1,4 +1,4 @@
--- At most one thread is at Inside, in every state reached from fresh.
+-- In every state reached from fresh, no two threads are Inside.
 use mathlib.Core.Path.{_≡_}
 use Prim.Native.Nat.{ℕ, _<_}
 use native.Mathlib.Omega.{arith}

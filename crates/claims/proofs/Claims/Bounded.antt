@@ -1,4 +1,4 @@
--- While one member stands ungranted, the threads under another enter at most its allowance.
+-- While one member stands ungranted, the threads under another enter at most as often as its allowance.
 use mathlib.Core.Path.{_≡_, refl, sym, ap, _∙_}
 use mathlib.Core.Bool.{Bool, true, false, cond}
 use mathlib.Core.List.{List, [], _∷_, _++_, append-assoc}
@@ -59,7 +59,7 @@ module _ (t : Tree) (valid : Accepted t) (d q : ℕ) (mem : is-member t d q ≡ 
         entries-append (standing-shown (x .standing) (x .domain)) (cond (is-entry (x .kind)) (moves.entered (x .thread) ∷ []) []),
       )
 
-  -- the entries of the table's steps are among those that the queues see
+  -- the entries of the table's steps are among those that the moves show
   entries-shown : (xs : List Step) → All-real t xs → entries-under t q xs ≤ moves.entries t q (all-shown xs)
   unfolding entries-under all-shown All-real moves.entries
   entries-shown [] l = omega arith

@@ -1,4 +1,4 @@
--- Each call of a list gives what the refusals and the step table give at its point of the whole schedule.
+-- Each call of a list answers what the refusals and the step table give at its point of the whole schedule.
 use mathlib.Core.Path.{_≡_, refl, sym, ap, _∙_}
 use mathlib.Core.Bool.{Bool, true, false, cond}
 use mathlib.Core.List.{List, [], _∷_, _++_, append-assoc, append-nil}
@@ -32,7 +32,7 @@ pub starts-here : (t : Tree) (f : LockState) → f ≡ reached t f []
 unfolding run run-of steps state-after counters-after-run
 starts-here t f = rw (counters-none t (f .counters))
 
--- THE STEP TABLE AT A SEAM of the schedule
+-- THE STEP TABLE where two parts of the schedule meet
 module _ (t : Tree) (f : LockState) (pre own rest : List ℕ) where
   words-at-seam : state-at t (f .words) (pre ++ rest) (length pre) ≡ run t pre (f .words) .state
   unfolding state-at
@@ -67,7 +67,7 @@ module _ (t : Tree) (f : LockState) (pre own rest : List ℕ) where
       let s = f .words in
       rw (steps-join t pre own s, state-after-join s (steps t pre s) (steps t own (state-after s (steps t pre s))), counters-join t (f .counters) (steps t pre s) (steps t own (state-after s (steps t pre s))))
 
--- the words behind one schedule and another
+-- the words after one schedule and then another
 module _ (t : Tree) (f : State) (pre own rest : List ℕ) where
   pub run-after : run t (pre ++ own) f .state ≡ run t own (run t pre f .state) .state
   unfolding then-run
@@ -77,7 +77,7 @@ pub run-one : (t : Tree) (i : ℕ) (s : State) → run t (i ∷ []) s .state ≡
 unfolding run run-of steps state-after
 run-one t i s = refl
 
--- ONE CALL, on the table's state at its point
+-- ONE CALL, on the table's state at its point of the schedule
 module _ (t : Tree) (f : LockState) (w : TreeWords) (pre rest : List ℕ) (s : LockState) (here : s ≡ reached t f pre) where
   abbrev u : Tree
   u = tree-of w
@@ -85,7 +85,7 @@ module _ (t : Tree) (f : LockState) (w : TreeWords) (pre rest : List ℕ) (s : L
   own : Ask → List ℕ
   own a = cond (eqb (ask-refusal u a s .number) 0) (asked-entries a) []
 
-  -- accepted: the stretch is the call's own entries
+  -- accepted: the stretch consists of the call's own entries
   accepted-expected :
       (a : Ask) → u ≡ t → eqb (ask-refusal u a s .number) 0 ≡ true →
       answer-to w a s ≡ expected-ask t f (pre ++ (asked-entries a ++ rest)) (length pre) u a
@@ -99,7 +99,7 @@ module _ (t : Tree) (f : LockState) (w : TreeWords) (pre rest : List ℕ) (s : L
       rw (here, at-seam t f pre [] (is ++ rest), words-at-seam t f pre [] (is ++ rest), stretch-between t f pre is rest, counters-between t f pre is rest)
       (ap (λ (v : Tree). ran (run-reply (run-refusal u r is (length b)) r (run-of (r .words) (steps v is (r .words))) (counters-after-run v is r)) (run-buffer (run-refusal u r is (length b)) b (run-of (r .words) (steps v is (r .words))))) e)
 
-  -- refused: nothing of the table's steps is looked at
+  -- refused: the answer does not depend on the table's steps
   refused-expected :
       (a : Ask) → eqb (ask-refusal u a s .number) 0 ≡ false → answer-to w a s ≡ expected-ask t f (pre ++ rest) (length pre) u a
   unfolding answer-to expected-ask ask-refusal step-answer run-answer trace-answer step-reply run-reply run-buffer

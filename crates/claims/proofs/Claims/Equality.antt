@@ -21,7 +21,7 @@ use Rattle.claims.proofs.Words.View.{words-in}
 use Rattle.claims.proofs.Words.Says.{Says, says-at}
 use Rattle.claims.proofs.Claims.Reached.{Queued, queued-from-fresh}
 
--- at or below the threshold, below it and other than it are one test, and without a next there is nobody to pass to; so the row by equality comes to the same
+-- up to the threshold, "below it" and "different from it" are the same test, and without a next the lock cannot be passed on; so the row by equality has the same result
 pub same-by-equality :
     (t : Tree) (i l : ℕ) (s : WordState) → (status s (own-record t i l) ≤ t .threshold l) ⊎ (next s (own-record t i l) ≡ none) → {x : Row-result} → Branch t i s (Check l) x →
     x ≡ equality-check-row t i l s

@@ -1,4 +1,4 @@
--- No queue has more than 256 members: a leaf's are threads, and any other domain's are child domains.
+-- No queue has more than 256 members: the members of a leaf are threads, those of any other domain are child domains.
 use mathlib.Core.Path.{_≡_, refl, sym, ap, _∙_}
 use mathlib.Core.Bool.{Bool, true, false, false≢true}
 use mathlib.Core.List.{List}
@@ -13,7 +13,7 @@ use Rattle.model.proofs.Lists.{count, same-or}
 use Rattle.claims.proofs.Words.Tickets.{total, total-length, list-short}
 use Rattle.claims.proofs.Claims.Bounded.{same-count}
 
--- numbers from 256 on alone, none twice
+-- a list of numbers from 256 on, none twice
 total-later : (n : ℕ) (q : List ℕ) → ((a : ℕ) → 1 ≤ count a q → 256 ≤ a) → ((a : ℕ) → count a q ≤ 1) → total n q ≤ n - 256
 unfolding total
 total-later zero q h o = omega arith
@@ -21,7 +21,7 @@ total-later (suc n) q h o =
     same-or (count n q) 0 _ (λ e. omega (arith, total-later n q h o)) (λ e. omega (arith, total-later n q h o, o n, h n (omega arith)))
 
 module _ (t : Tree) (valid : Accepted t) (d : ℕ) where
-  -- a leaf has no child domain, and any other domain is no home
+  -- a leaf has no child domain, and any other domain is no thread's home
   of-a-leaf : (m : ℕ) → is-leaf t d ≡ true → Member t d m → m < 256
   of-a-leaf m e (a-thread i s q) = omega (arith, valid .few-threads)
   of-a-leaf m e (a-domain c p s q) = absurd (leaf-childless t d c e p s q)

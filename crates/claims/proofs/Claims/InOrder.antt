@@ -1,4 +1,4 @@
--- In each domain standing ungranted ends in the order in which it began.
+-- In each domain, standing ungranted ends in the order in which it began.
 use mathlib.Core.Path.{_≡_, refl, sym, _∙_}
 use mathlib.Core.Bool.{Bool, true, false, cond}
 use mathlib.Core.List.{List, [], _∷_, _++_, append-assoc, append-nil}
@@ -16,7 +16,7 @@ use Rattle.claims.proofs.Queues.Order.{in-order}
 use Rattle.claims.proofs.Words.Outcome.{ends-shown, standing-shown, entry-shown, shown}
 use Rattle.claims.proofs.Claims.Reached.{all-shown}
 
--- EVENTS behind events
+-- JOINED LISTS OF EVENTS
 pub begun-append : (d : ℕ) (xs ys : List Event) → moves.begun d (xs ++ ys) ≡ moves.begun d xs ++ moves.begun d ys
 unfolding moves.begun
 begun-append d [] ys = refl
@@ -27,7 +27,7 @@ unfolding moves.given
 given-append d [] ys = refl
 given-append d (x ∷ xs) ys = rw (given-append d xs ys) (simp append-assoc)
 
--- one domain's number, tested either way round
+-- a test of one domain's number, with its sides exchanged
 here-turned : (d e m : ℕ) → here d e m ≡ cond (eqb e d) (m ∷ []) []
 unfolding here
 here-turned d e m =
@@ -37,7 +37,7 @@ neither : (b : Bool) (xs : List ℕ) → xs ≡ [] → cond b xs [] ≡ []
 neither true xs e = e
 neither false xs e = refl
 
--- an entry begins and ends no standing
+-- an entry neither begins nor ends a standing
 entry-begun : (d : ℕ) (b : Bool) (i : ℕ) → moves.begun d (cond b (moves.entered i ∷ []) []) ≡ []
 unfolding moves.begun moves.begun-by
 entry-begun d true i = refl
@@ -48,7 +48,7 @@ unfolding moves.given moves.given-by
 entry-given d true i = refl
 entry-given d false i = refl
 
--- ends begin nothing, and end what they name
+-- an end begins nothing, and ends what it names
 ends-begun : (d e : ℕ) (ms : List ℕ) → moves.begun d (ends-shown e ms) ≡ []
 unfolding moves.begun moves.begun-by ends-shown
 ends-begun d e [] = refl
@@ -89,7 +89,7 @@ step-given d x =
     ∙ rw (entry-given d (is-entry (x .kind)) (x .thread)) (append-nil (moves.given d (standing-shown (x .standing) (x .domain))))
     ∙ standing-given d (x .domain) (x .standing)
 
--- the members at beginnings and ends are those of the events shown
+-- the members at beginnings and ends are those of the events that are shown
 pub begun-shown : (d : ℕ) (xs : List Step) → moves.begun d (all-shown xs) ≡ begun d xs
 unfolding all-shown begun moves.begun
 begun-shown d [] = refl

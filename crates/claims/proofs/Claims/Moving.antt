@@ -1,4 +1,4 @@
--- In every state reached from fresh in which a thread is not Idle, one that is not Idle has a next step that is no stay.
+-- In every state reached from fresh in which some thread is not Idle, a thread that is not Idle has a next step that is not a stay.
 use mathlib.Core.Path.{_≡_, refl, sym, ap, _∙_}
 use mathlib.Core.Bool.{true, false, false≢true}
 use mathlib.Core.List.{List, [], _∷_}
@@ -54,7 +54,7 @@ entry-moves : (k : Kind) → is-entry k ≡ true → k ≢ stay
 unfolding is-entry
 entry-moves k f e = false≢true (sym (ap is-entry e) ∙ f)
 
--- a thread that is not Idle, and a step of it that is no stay
+-- a thread that is not Idle and whose next step is no stay
 pub record Mover (t : Tree) (s : WordState) : Type 0 where
   pub thread : ℕ
   pub real : thread < t .threads
@@ -80,7 +80,7 @@ module _ (t : Tree) (valid : Accepted t) (bits : Sixteen-bit t) (s : WordState) 
   abbrev pub inv : Inv t g
   inv = q .represents .invariant
 
-  -- what a thread's place comes to: someone can move, itself or the one after it in Link; or it stands ungranted; or it is Idle
+  -- what follows from a thread's place: the thread, or the one after it in Link, can move; or it stands ungranted; or it is Idle
   data Found (i : ℕ) : Type 0 where
     can-move : Mover t s → Found i
     stands : (k : ℕ) → g .stage i ≡ queued k → Found i
@@ -94,14 +94,14 @@ module _ (t : Tree) (valid : Accepted t) (bits : Sixteen-bit t) (s : WordState) 
     row-moves : (p : Place) → may-stay p ≡ false → Moves (row t i p s)
     row-moves p f = no-stay _ (goes-on f (branch t i s p))
 
-    -- granted, and to acquire the parent
+    -- granted the domain only, so the parent is next
     pub woken-moves : (k : ℕ) → k < height t i → w .statuses (record-at t i k) ≡ acquire-parent → Moves (wait-row t i (ancestor t i k) s)
     unfolding words-in is-kind
     woken-moves k b v =
         let inner = ancestor-inner t valid i h k b in
         rw (acquiring-row t i s (ancestor t i k) (λ z. omega arith) (rw (own-record-at t valid i h k (omega arith)) v)) (no-stay other refl)
 
-    -- granted the lock: UNLOCKED at the root, else a count
+    -- granted the lock: UNLOCKED at the root, a count below it
     pub ready-moves :
         (k : ℕ) → k ≤ height t i → g .stage i ≡ ready → (k < height t i → w .statuses (record-at t i k) ≡ g .tally (record-at t i k)) →
         (k ≡ height t i → w .statuses (record-at t i k) ≡ 0) → Moves (wait-row t i (ancestor t i k) s)
@@ -112,7 +112,7 @@ module _ (t : Tree) (valid : Accepted t) (bits : Sixteen-bit t) (s : WordState) 
         by (granted-root z) = no-stay root-entry refl
         by (granted-inner n kind entry) = entry-moves kind entry
 
-    -- shown its ticket
+    -- the ticket is shown
     pub shown-moves : t .ticket-root ≡ true → g .stage i ≡ ready → Moves (watch-row t i s)
     unfolding words-in low is-kind
     shown-moves root e = by (watch-branch t i s)
@@ -124,7 +124,7 @@ module _ (t : Tree) (valid : Accepted t) (bits : Sixteen-bit t) (s : WordState) 
         by (watch-shown _) = no-stay root-entry refl
         by (watch-unshown n) = absurd ((rw (root-record t valid i h) at n) shown)
 
-  -- whoever stands after a record without next is in Link, and moves
+  -- the member after a record without a next is in Link, and moves
   link-after :
       (d r m : ℕ) (ys : List ℕ) → is-ticket t d ≡ false → g .queue d ≡ r ∷ m ∷ ys → next s r ≡ 0 → Mover t s
   unfolding words-in may-stay
@@ -150,7 +150,7 @@ module _ (t : Tree) (valid : Accepted t) (bits : Sixteen-bit t) (s : WordState) 
           absurd (false≢true (sym nt ∙ ticket-yes t d y (sym (b .place) ∙ ap (ancestor t S) z ∙ ancestor-root t valid S (b .real))))
 
   module _ (i : ℕ) (h : i < t .threads) where
-    -- LINGER: with a next it moves; without one, the member behind is in Link
+    -- LINGER: with a next it moves; without one, the member after it is in Link and moves
     linger-someone :
         (k : ℕ) → k ≤ height t i → place s i ≡ Linger (ancestor t i k) → g .stage i ≡ letting-go (height t i) k →
         w .tails (ancestor t i k) ≢ suc (record-at t i k) → {x : Row-result} → row t i (Linger (ancestor t i k)) s ≡ x → Branch t i s (Linger (ancestor t i k)) x → Mover t s
@@ -193,7 +193,7 @@ module _ (t : Tree) (valid : Accepted t) (bits : Sixteen-bit t) (s : WordState) 
     unfolding words-in
     found = found-at refl refl (rep .fits i h)
 
-  -- one that stands ungranted nowhere
+  -- from a thread that stands ungranted nowhere
   from-unblocked : Unblocked t g → Mover t s
   unfolding low acts reach
   from-unblocked u = by (found i (inv .threads i .real (u .busy)))
@@ -215,7 +215,7 @@ module _ (t : Tree) (valid : Accepted t) (bits : Sixteen-bit t) (s : WordState) 
       by (stands k e) = from-unblocked (unblocked t (laws t valid) g inv i (rw e (omega arith)))
       by (idles y e) = absurd (n y)
 
-  -- room that the tree lacks is Idle
+  -- unused slots are Idle
   pub someone-moves : (i : ℕ) → place s i ≢ Idle → Mover t s
   someone-moves i n = from-any i (less-or i (t .threads) _ (λ b. b) (λ b. absurd (n (q .facts .places i .unused b)))) n
 

@@ -1,4 +1,4 @@
--- From fresh, the count that Check passes on is from 2 to the threshold: the law of counts at Check says that it was started.
+-- From fresh, the count that Check passes on is between 2 and the threshold: by the law of counts at Check, the count was started at 1.
 use mathlib.Core.Path.{_≡_, sym, ap, _∙_}
 use mathlib.Core.Bool.{Bool, true, false, cond}
 use mathlib.Core.Logic.{_≢_}

@@ -1,4 +1,4 @@
--- Below the root the lock is passed on only where the threshold is at least 2.
+-- Below the root the lock is passed on only if the threshold is at least 2.
 use mathlib.Core.Path.{_≡_, refl, sym, ap, _∙_}
 use mathlib.Core.Bool.{Bool, true, false, _&&_, not, false≢true}
 use mathlib.Core.List.{List, [], _∷_, _++_}
@@ -39,7 +39,7 @@ module _ (t : Tree) (valid : Accepted t) (s : WordState) (q : Queued t s) (i l :
   own : (k : ℕ) → k ≤ height t i → l ≡ ancestor t i k → own-record t i l ≡ record-at t i k
   own k b z = ap (own-record t i) z ∙ own-record-at t valid i h k b
 
-  -- with a status that stays or acquires the parent, the step is no entry
+  -- if the status stays or is ACQUIRE_PARENT, the step is no entry
   stays-out : status s (own-record t i l) ≡ wait-word → is-entry (wait-row t i l s .kind) ≡ false
   unfolding is-entry
   stays-out v = rw (ungranted-row t i s l (rw (ne-eqb l 0 n) v))
@@ -68,7 +68,7 @@ passing-law t s f i l h e n entry =
     enough t (accepted t (f .fresh-run .tree-accepted)) s q i l h n (x .0) (x .1) (x .2) (rw e at entry)
 
 -- ALL THRESHOLDS 1
--- one entry after others
+-- one more entry after a schedule
 after-one : (t : Tree) (f : WordState) (pre : List ℕ) (i : ℕ) → run t (pre ++ (i ∷ [])) f .state ≡ step t i (run t pre f .state) .state
 unfolding then-run run run-of steps state-after
 after-one t f pre i = ap (λ x. x .state) (run-join t pre (i ∷ []) f)

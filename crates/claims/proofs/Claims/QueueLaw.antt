@@ -1,4 +1,4 @@
--- Each domain reached from fresh has its queue, and exactly one thread acts for each member in it.
+-- In states reached from fresh each domain has its queue, and exactly one thread acts for each member in it.
 use mathlib.Core.Path.{_≡_, refl, sym, ap, _∙_}
 use mathlib.Core.Bool.{Bool, true, false, cond, false≢true}
 use mathlib.Core.Logic.{inl, inr}
@@ -45,7 +45,7 @@ unfolding rest
 rest-drop [] = refl
 rest-drop (m ∷ ms) = refl
 
--- the tail names the last; at a ticket root there is none
+-- the tail names the last member; a ticket root has no tail
 tail-there :
     (t : Tree) (s : WordState) (q : Queued t s) (d : ℕ) (b : Bool) → is-ticket t d ≡ b → tail s d ≡ cond b none (last-or-none (q .queues .queue d))
 unfolding words-in
@@ -64,7 +64,7 @@ module _ (t : Tree) (valid : Accepted t) (bits : Sixteen-bit t) (s : WordState) 
   abbrev pub inv : Inv t g
   inv = q .represents .invariant
 
-  -- a thread that acts for a record works with it at an index where its stage acts
+  -- a thread that acts for a record uses it at an index at which its stage acts
   pub record Acting (d m i : ℕ) : Type 0 where
     pub index : ℕ
     pub within : index < acts (height t i) (g .stage i)
@@ -108,7 +108,7 @@ module _ (t : Tree) (valid : Accepted t) (bits : Sixteen-bit t) (s : WordState) 
             unique t (laws t valid) g inv j (a .thread) (x .index) (a .index) (x .within) (a .acting) (x .mine ∙ sym (a .mine)) .0;
       }
 
-  -- a record for which a thread acts is in the queue: first, or standing
+  -- a record for which a thread acts is in the queue, as its first or standing
   pub in-queue : (i k : ℕ) → k < acts (height t i) (g .stage i) → 1 ≤ count (record-at t i k) (g .queue (ancestor t i k))
   in-queue i k b =
       let th = inv .threads i in

@@ -1,4 +1,4 @@
--- From fresh, every schedule leads to a state that represents queues, and what its steps show is a run of moves.
+-- From fresh, every schedule leads to a state that represents queues, and its steps correspond to a run of moves.
 use mathlib.Core.Path.{_≡_, refl, sym, _∙_}
 use mathlib.Core.List.{List, [], _∷_, _++_}
 use Prim.Native.Nat.{ℕ, zero, suc, _<_}
@@ -26,7 +26,7 @@ use Rattle.claims.proofs.Words.Represents.{Tickets, at-idle, Represents
 use Rattle.claims.proofs.Words.Outcome.{row-shown, shown, Outcome}
 use Rattle.claims.proofs.Words.Steps.{step-outcome}
 
--- what some steps show, in order
+-- what a list of steps shows, in order
 unfoldable pub all-shown : List Step → List Event
 all-shown [] = []
 all-shown (x ∷ xs) = shown x ++ all-shown xs
@@ -61,7 +61,7 @@ fresh-queued t v =
     }
 
 -- ALONG A SCHEDULE
--- every step is a thread's of the tree
+-- every step is one of a thread of the tree
 unfoldable pub All-real : Tree → List Step → Type 0
 All-real t [] = Unit {0}
 All-real t (x ∷ xs) = (x .thread < t .threads) × All-real t xs

@@ -1,4 +1,4 @@
--- While a member stands, the entries under another are at most its allowance.
+-- While a member stands ungranted, the entries under another are at most its allowance.
 use mathlib.Core.Path.{_≡_, refl, sym, ap, _∙_}
 use mathlib.Core.Bool.{Bool, true, false, cond, false≢true}
 use mathlib.Core.List.{List, [], _∷_, _++_}
@@ -56,7 +56,7 @@ entry-one T q (entered i) = go (under T i q)
     go true = omega arith
     go false = omega arith
 
--- whoever enters is first everywhere after it
+-- a thread that enters is then first everywhere
 entered-low : (T : Tree) {st st′ : State} {e : Event} → Move T st e st′ → (n : ℕ) → hit e n ≡ 1 → low (height T n) (st′ .stage n) ≡ suc (height T n)
 unfolding hit low
 entered-low T (start i h e) n z = absurd (omega arith)
@@ -69,7 +69,7 @@ entered-low T (hand-on i j s l xs e h w m ok shape) n z = absurd (omega arith)
 entered-low T (release i j s l xs e w m shape) n z = absurd (omega arith)
 entered-low T (let-go i j b shape) n z = absurd (omega arith)
 
--- BEFORE m: q stands in the list, and m does not stand before it
+-- AHEAD OF m: q is in the list, and m is not before it
 unfoldable pub ahead : (q m : ℕ) → List ℕ → ℕ
 ahead q m [] = 0
 ahead q m (x ∷ xs) = cond (eqb x m) 0 (cond (eqb x q) 1 (ahead q m xs))
@@ -101,7 +101,7 @@ ahead-in q m (x ∷ xs) h =
     (λ w. omega (arith, is-same q x (sym w)))
     (λ w. let b = ne-eqb x q w in let h′ : 1 ≤ ahead q m xs = rw (a, b) at h in omega (arith, ahead-in q m xs h′)))
 
--- who comes after m is not before it
+-- a member that joins after m is not ahead of it
 ahead-snoc : (q m y : ℕ) (xs : List ℕ) → 1 ≤ count m xs → ahead q m (xs ++ (y ∷ [])) ≡ ahead q m xs
 unfolding ahead count
 ahead-snoc q m y [] h = absurd (omega arith)
@@ -120,7 +120,7 @@ nobody-opens m xs y h = nobody m xs (ap rest y ∙ rest-nil) h
 nobody-closes : (m a : ℕ) (xs : List ℕ) → xs ≡ a ∷ [] → 1 ≤ count m (rest xs) → ⊥
 nobody-closes m a xs y h = nobody m xs (ap rest y ∙ rest-cons a []) h
 
--- the one granted is not m
+-- the member that is granted is not m
 other-ends : (d m r : ℕ) (e : Event) → given-by d e ≡ r ∷ [] → count m (given-by d e) ≡ 0 → r ≢ m
 other-ends d m r e g o z =
     let o′ : count m (r ∷ []) ≡ 0 = rw g at o in
@@ -146,7 +146,7 @@ still-ahead d m q e xs ys (moves x r zs y z b g n) h o a =
     rw (y, rest-cons x (r ∷ zs)) (ahead-later q m r zs (other-ends d m r e g o) a′)
 still-ahead d m q e xs ys (closes x y z b g) h o a = absurd (nobody-closes m x xs y h)
 
--- whoever is first was first before, or is granted now and stood before m
+-- the member that is first now was first before, or is granted now and was ahead of m
 first-before :
     (d m q : ℕ) (e : Event) (xs ys : List ℕ) (C : Type 0) → Change d e xs ys → 1 ≤ count m (rest xs) → count m (given-by d e) ≡ 0 → q ≢ m → first ys ≡ suc q →
     (first xs ≡ suc q → C) → (1 ≤ ahead q m (rest xs) → ((n : ℕ) → hit e n ≡ 0) → C) → C
@@ -164,7 +164,7 @@ pub record Claim (T : Tree) (st : State) (d m q n : ℕ) : Type 0 where
   pub if-ahead : 1 ≤ ahead q m (rest (st .queue d)) → allowance T q ≤ n
 
 module _ (T : Tree) (tree-laws : Laws T) where
-  -- at any time the allowance bounds them
+  -- the allowance bounds them at any time
   claim-start : (st : State) → Inv T st → (d m q : ℕ) → Claim T st d m q (allowance T q)
   claim-start st inv d m q =
       record {
@@ -174,7 +174,7 @@ module _ (T : Tree) (tree-laws : Laws T) where
 
   module _ (st st′ : State) (e : Event) (inv : Inv T st) (inv′ : Inv T st′) (mv : Move T st e st′) (d m q n : ℕ) (mem : owner-domain T q ≡ d) (ne : q ≢ m)
       (stands : 1 ≤ count m (rest (st .queue d))) (not-now : count m (given-by d e) ≡ 0) (claim : Claim T st d m q n) where
-    -- who acts for q at the top of its records, acts in d
+    -- a thread that is first with its record q is first in d
     there : (i k : ℕ) → k < low (height T i) (st′ .stage i) → record-at T i k ≡ q → ancestor T i k ≡ d
     there i k h z =
         let a = low-acts (height T i) (st′ .stage i) in
@@ -212,7 +212,7 @@ module _ (T : Tree) (tree-laws : Laws T) where
         let b : left T (st′ .tally) (st′ .stage i) i k ≤ allowance T q = rw z at (left-bound T tree-laws st′ inv′ i k (omega (arith, low-acts (height T i) (st′ .stage i)))) in
         omega (arith, quiet o))
 
-    -- if an entry is under q, q is first
+    -- after an entry under q, q is first
     entry-first : 1 ≤ entry-by T q e → (first (st′ .queue d) ≡ suc q) × (entry-by T q e ≤ n)
     entry-first g =
         let t = entrant T q e g in
@@ -259,7 +259,7 @@ module _ (T : Tree) (tree-laws : Laws T) where
       let b = bounded r inv′ d m q (n - entry-by T q e) mem ne h′ o₂ c′ in
       omega (arith, entry-fits st st₁ e inv inv′ mv d m q n mem ne h o₁ c)
 
-  -- in any state reached, while m stands in d, and as long as its standing does not end: the entries under another member of d
+  -- in any reached state in which m stands in d, and until its standing ends: the entries under another member of d
   pub within-allowance :
       {st st′ : State} {es fs : List Event} → Run T empty es st → Run T st fs st′ → (d m q : ℕ) → owner-domain T q ≡ d → q ≢ m → 1 ≤ count m (rest (st .queue d)) →
       count m (given d fs) ≡ 0 → entries T q fs ≤ allowance T q
@@ -267,7 +267,7 @@ module _ (T : Tree) (tree-laws : Laws T) where
       let inv = reached T tree-laws r in
       bounded s inv d m q (allowance T q) mem ne h o (claim-start st inv d m q)
 
-  -- the same, read off the events: from the beginning of m's standing on, ys without its grant
+  -- the same for the events of a run: from the beginning of m's standing, over events ys without its grant
   pub between :
       {st : State} {es : List Event} → Run T empty es st → (xs ys zs : List Event) (d m q : ℕ) → es ≡ xs ++ (begins d m ∷ (ys ++ zs)) →
       count m (given d ys) ≡ 0 → owner-domain T q ≡ d → q ≢ m → entries T q ys ≤ allowance T q

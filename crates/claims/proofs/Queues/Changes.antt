@@ -1,4 +1,4 @@
--- The moves of the queues that one step of a thread is, what they show, and which records they make first.
+-- The moves of the queues that correspond to one step of a thread, what they show, and which records they make first.
 use mathlib.Core.Path.{_≡_, refl}
 use mathlib.Core.List.{List, [], _∷_}
 use Prim.Native.Nat.{ℕ, _<_}
@@ -7,11 +7,11 @@ use Rattle.model.proofs.Trees.Index.{record-at}
 use Rattle.model.proofs.Lists.{put}
 use Rattle.claims.proofs.Queues.Moves.{State, Event, out, climb, nothing, begins, ends, entered, Move, start, join-empty, join-root, join-after, enter, leave, hand-on, release, let-go, Run, done, silent, more}
 
--- a thread that starts
+-- the state after a thread starts
 abbrev pub started-by : State → (thread : ℕ) → State
 started-by st i = record { queue = st .queue; stage = put (st .stage) i (climb 0); tally = st .tally }
 
--- none, one, or a start before them
+-- no move, one move, or a start before them
 pub data Changed (T : Tree) : State → State → Type 0 where
   unmoved : {st : State} → Changed T st st
   moved : {st st′ : State} {e : Event} → Move T st e st′ → Changed T st st′
@@ -55,7 +55,7 @@ change-firsts T unmoved = []
 change-firsts T (moved mv) = made-first T mv
 change-firsts T (begun i h e c) = change-firsts T c
 
--- a grant makes first the record that it names
+-- a grant makes the record that it names first
 pub made-ends : (T : Tree) {st st′ : State} {d m : ℕ} (mv : Move T st (ends d m) st′) → made-first T mv ≡ m ∷ []
 unfolding made-first
 made-ends T (hand-on i j s l xs e h w m ok shape) = refl

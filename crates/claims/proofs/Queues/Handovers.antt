@@ -1,4 +1,4 @@
--- The hand-overs with the successor's record named by itself, as a step of the table meets them.
+-- The hand-overs with the successor's record named directly, as steps of the table use them.
 use mathlib.Core.Path.{_≡_}
 use mathlib.Core.List.{List, _∷_}
 use mathlib.Core.Logic.{_≢_}

@@ -1,4 +1,4 @@
--- The invariant, and that one thread at most acts for a record.
+-- The invariant, and that at most one thread acts for a record.
 use mathlib.Core.Path.{_≡_, refl, sym, ap, _∙_}
 use mathlib.Core.List.{List}
 use mathlib.Core.Logic.{_≢_}
@@ -46,11 +46,11 @@ reach-down h zero = omega arith
 reach-down h (suc j) = omega arith
 
 -- THE INVARIANT
--- the first k queues of thread i's path begin with its records
+-- in the first k domains of its path, thread i's record is the first of the queue
 abbrev pub Below : Tree → (ℕ → List ℕ) → (i k : ℕ) → Type 0
 Below T Q i k = (n : ℕ) → n < k → first (Q (ancestor T i n)) ≡ suc (record-at T i n)
 
--- what the queues say of thread i, which is at stage x
+-- what the queues imply about thread i, which is at stage x
 pub record Thread (T : Tree) (Q : ℕ → List ℕ) (i : ℕ) (x : Stage) : Type 0 where
   pub real : 0 < reach (height T i) x → i < T .threads
   pub range : reach (height T i) x ≤ suc (height T i)
@@ -85,7 +85,7 @@ inv-empty T =
       counts = λ d m n e. absurd (omega arith);
     }
 
--- UNIQUENESS: a record that two threads stand above is one thread's, at one index
+-- UNIQUENESS: two threads that are first below their indices and have the same record there are one thread at one index
 pub same-user :
     (T : Tree) (Q : ℕ → List ℕ) (i j : ℕ) → i < 256 → j < 256 → (k l : ℕ) → Below T Q i k → Below T Q j l → record-at T i k ≡ record-at T j l → (i ≡ j) × (k ≡ l)
 unfolding record-at
@@ -101,7 +101,7 @@ same-user T Q i j hi hj (suc k) (suc l) b c e =
     (r .0, ap suc (r .1))
 
 module _ (T : Tree) (tree-laws : Laws T) (st : State) (inv : Inv T st) where
-  -- a thread's record number, and its heads
+  -- a thread that acts has a number below 256, and is first below its index
   pub small : (i k : ℕ) → k < reach (height T i) (st .stage i) → i < 256
   small i k h = let r = inv .threads i .real (omega arith) in let f = tree-laws .few in omega arith
 
@@ -115,7 +115,7 @@ module _ (T : Tree) (tree-laws : Laws T) (st : State) (inv : Inv T st) where
       (i j k l : ℕ) → k < acts (height T i) (st .stage i) → l < acts (height T j) (st .stage j) → record-at T i k ≡ record-at T j l → (i ≡ j) × (k ≡ l)
   unique i j k l h g e = same-user T (st .queue) i j (acts-small i k h) (acts-small j l g) k l (below i k h) (below j l g) e
 
-  -- two threads first in one domain
+  -- two threads that are first in one domain are the same
   pub one-head :
       (i j k l : ℕ) → k < low (height T i) (st .stage i) → l < low (height T j) (st .stage j) → ancestor T i k ≡ ancestor T j l → (i ≡ j) × (k ≡ l)
   one-head i j k l h g e =
@@ -124,7 +124,7 @@ module _ (T : Tree) (tree-laws : Laws T) (st : State) (inv : Inv T st) where
       let z = ap (λ d. first (st .queue d)) e in
       unique i j k l (omega (arith, low-acts (height T i) (st .stage i))) (omega (arith, low-acts (height T j) (st .stage j))) (omega arith)
 
-  -- a record stands in one queue only
+  -- a record is in one queue only
   pub one-queue : (d e m : ℕ) → 1 ≤ count m (st .queue d) → 1 ≤ count m (st .queue e) → d ≡ e
   one-queue d e m h g =
       let a = inv .acted d m h in
@@ -136,7 +136,7 @@ module _ (T : Tree) (tree-laws : Laws T) (st : State) (inv : Inv T st) where
       let q = u .1 in
       cc
 
-  -- the record after those for which a thread acts stands in no queue
+  -- the record after those for which a thread acts is in no queue
   pub absent : (i j d : ℕ) → acts (height T i) (st .stage i) ≡ j → i < 256 → Below T (st .queue) i j → count (record-at T i j) (st .queue d) ≡ 0
   absent i j d w few b =
       less-or 0 (count (record-at T i j) (st .queue d)) _
@@ -149,7 +149,7 @@ module _ (T : Tree) (tree-laws : Laws T) (st : State) (inv : Inv T st) where
       absurd (omega arith))
       (λ h. omega arith)
 
-  -- so that of a thread about to join
+  -- so the record of a thread about to join is in no queue
   pub fresh : (i j d : ℕ) → st .stage i ≡ climb j → count (record-at T i j) (st .queue d) ≡ 0
   unfolding low acts reach
   fresh i j d e = absent i j d (rw e refl) (small i j (rw e (omega arith))) (λ n g. inv .threads i .heads n (rw e g))

@@ -1,4 +1,4 @@
--- The invariant where only a thread's stage changes, and where its record joins a queue.
+-- The invariant when only a thread's stage changes, and when its record joins a queue.
 use mathlib.Core.Path.{_≡_, refl}
 use Prim.Native.Nat.{ℕ, _≤_, _<_}
 use native.Mathlib.Omega.{arith}
@@ -9,7 +9,7 @@ use Rattle.claims.proofs.Queues.Paths.{Laws}
 use Rattle.claims.proofs.Queues.Moves.{Stage, climb, low, acts, State}
 use Rattle.claims.proofs.Queues.Invariant.{Thread, Acted, Counts, Inv, fresh}
 
--- ACTING GROWS
+-- THREADS ACT AT NO FEWER INDICES
 acted-more :
     (T : Tree) (f g : ℕ → Stage) (d m : ℕ) → ((n : ℕ) → acts (height T n) (f n) ≤ acts (height T n) (g n)) → Acted T f d m → Acted T g d m
 acted-more T f g d m h a =
@@ -25,7 +25,7 @@ module _ (T : Tree) (tree-laws : Laws T) (st : State) (inv : Inv T st) where
         stands = λ h. grown-rest (st .queue) L m (ancestor T n (low (height T n) x)) (record-at T n (low (height T n) x)) (t .stands h);
       }
 
-  -- ONLY A STAGE CHANGES, and with it no number
+  -- ONLY A STAGE CHANGES, and the thread acts at no fewer indices
   pub restaged :
       (i : ℕ) (x : Stage) → Thread T (st .queue) i x → acts (height T i) (st .stage i) ≤ acts (height T i) x →
       Inv T (record { queue = st .queue; stage = put (st .stage) i x; tally = st .tally })

@@ -15,7 +15,7 @@ use Rattle.claims.proofs.Queues.Invariant.{low-acts, acts-reach, low-do
 
 module _ (T : Tree) (tree-laws : Laws T) (st : State) (inv : Inv T st) where
   -- A THREAD LETS GO at index j
-  -- those who have nothing to do with it
+  -- the threads that are not involved
   pub bystander :
       (i j n : ℕ) (ys : List ℕ) → st .queue (ancestor T i j) ≡ record-at T i j ∷ ys → j < low (height T i) (st .stage i) → n ≢ i →
       (low (height T n) (st .stage n) < acts (height T n) (st .stage n) → first ys ≢ suc (record-at T n (low (height T n) (st .stage n)))) →
@@ -31,7 +31,7 @@ module _ (T : Tree) (tree-laws : Laws T) (st : State) (inv : Inv T st) where
             (λ z. far b) (t .stands b);
       }
 
-  -- the one who lets go
+  -- the thread that lets go
   releaser :
       (i j : ℕ) (ys : List ℕ) → j < low (height T i) (st .stage i) → Thread T (put (st .queue) (ancestor T i j) ys) i (down j)
   releaser i j ys h =
@@ -117,14 +117,14 @@ module _ (T : Tree) (tree-laws : Laws T) (st : State) (inv : Inv T st) where
       restaged T tree-laws st inv i holding (record { real = t .real; range = t .range; heads = t .heads; stands = t .stands }) (rw e (omega arith))
 
   -- THE JOINS
-  -- what a thread about to join knows
+  -- what holds for a thread about to join
   climber : (i j : ℕ) → st .stage i ≡ climb j → (i < T .threads) × (j ≤ height T i) × Below T (st .queue) i j
   unfolding low acts reach
   climber i j e =
       let t : Thread T (st .queue) i (climb j) = rw e at (inv .threads i) in
       (t .real (omega arith), omega (arith, t .range), t .heads)
 
-  -- alone in the queue, it is first there too
+  -- if the queue is empty, it is first there too
   first-there :
       (i j : ℕ) → st .stage i ≡ climb j → st .queue (ancestor T i j) ≡ [] → Below T (grown (st .queue) (ancestor T i j) (record-at T i j)) i (suc j)
   first-there i j e z n h =
@@ -198,10 +198,10 @@ module _ (T : Tree) (tree-laws : Laws T) (st : State) (inv : Inv T st) where
       inv .counts d q nd (ap (λ x. first (st .queue x)) w ∙ f ∙ sym g ∙ h))
       (λ w. inv .counts d q nd (rw (put-other (st .queue) L (st .queue L ++ (m ∷ [])) d w) at h)))
 
-  -- THE HAND-OVERS: i lets go at index j, and s, who stands next, is first
+  -- THE HAND-OVERS: i lets go at index j, and s, which stands next, becomes first
   module _ (i j s l : ℕ) (xs : List ℕ) (shape : st .queue (ancestor T i j) ≡ record-at T i j ∷ record-at T s l ∷ xs) (holds : j < low (height T i) (st .stage i))
       (waits : st .stage s ≡ queued l) (meet : ancestor T s l ≡ ancestor T i j) (apart : s ≢ i) where
-    -- what the successor knows
+    -- what holds for the successor
     successor : (s < T .threads) × (l ≤ height T s) × Below T (st .queue) s l
     unfolding low acts reach
     successor =
@@ -323,7 +323,7 @@ module _ (T : Tree) (tree-laws : Laws T) (st : State) (inv : Inv T st) where
         })
         (successor-counts (suc (st .tally (record-at T i j))) (λ n. (omega arith, ok n)))
 
-  -- NOBODY STANDS BEHIND
+  -- NOBODY STANDS AFTER IT
   pub last-low : (i j : ℕ) → Last T st i j → low (height T i) (st .stage i) ≡ suc j
   unfolding low
   last-low i j (root e h) = rw (e, h)
@@ -350,7 +350,7 @@ module _ (T : Tree) (tree-laws : Laws T) (st : State) (inv : Inv T st) where
       (λ z. inv .counts d r nd (rw (put-other (st .queue) L [] d z) at g)))
 
   -- EVERY MOVE
-  -- a thread that stands is not one that has the lock or lets go
+  -- a thread that stands neither has the lock nor lets go
   pub standing-not :
       (i s l : ℕ) (x : Stage) → st .stage s ≡ queued l → st .stage i ≡ x → low (height T i) x ≡ acts (height T i) x → s ≢ i
   unfolding low acts

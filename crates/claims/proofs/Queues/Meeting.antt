@@ -1,4 +1,4 @@
--- Two paths that meet: one from there up, and as far from the root.
+-- Two paths that meet are the same from there up, and equally far from the root.
 use mathlib.Core.Path.{_≡_, sym, ap, _∙_}
 use Prim.Native.Nat.{ℕ, zero, suc, _+_, _-_, _≤_, _<_}
 use native.Mathlib.Omega.{arith}
@@ -8,7 +8,7 @@ use Rattle.model.proofs.Trees.Index.{ancestor, height, record-at, above}
 use Rattle.model.proofs.Lists.{less-or}
 use Rattle.claims.proofs.Queues.Paths.{Laws}
 
--- two paths that meet are one from there up
+-- two paths that meet are the same from there up
 pub follow : (T : Tree) (s l i j : ℕ) → ancestor T s l ≡ ancestor T i j → (e : ℕ) → ancestor T s (l + e) ≡ ancestor T i (j + e)
 unfolding ancestor
 follow T s l i j h zero = rw (add-zero l, add-zero j) h
@@ -18,7 +18,7 @@ pub follow-record-at : (T : Tree) (s l i j : ℕ) → ancestor T s l ≡ ancesto
 unfolding record-at
 follow-record-at T s l i j h e = rw (add-suc l e, add-suc j e) (ap (λ d. 256 + d) (follow T s l i j h e))
 
--- and reach the root together
+-- and they reach the root together
 pub same-height :
     (T : Tree) → Laws T → (s l i j : ℕ) → s < T .threads → i < T .threads → l ≤ height T s → j ≤ height T i → ancestor T s l ≡ ancestor T i j →
     height T s + j ≡ height T i + l
@@ -29,7 +29,7 @@ same-height T tree-laws s l i j hs hi a b e =
     (λ g. absurd (not-lower i j s l hi hs b (omega arith) (sym e)))
     (λ g. omega arith))
   where
-    -- the first of the two at the root, and the other not yet
+    -- one of them cannot reach the root before the other
     not-lower : (s l i j : ℕ) → s < T .threads → i < T .threads → l ≤ height T s → height T s + j < height T i + l → ancestor T s l ≡ ancestor T i j → ⊥
     not-lower s l i j hs hi a h e =
         let k = height T s - l in

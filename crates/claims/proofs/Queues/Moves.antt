@@ -1,4 +1,4 @@
--- A tree of abstract queues: the stages of threads and the moves. No tails, nexts or status words here.
+-- A tree of abstract queues: the stages of threads, and the moves. No tails, nexts or status words here.
 use mathlib.Core.Path.{_≡_}
 use mathlib.Core.Bool.{Bool, false, cond, _||_}
 use mathlib.Core.List.{List, [], _∷_, _++_}
@@ -17,17 +17,17 @@ under-from T i (suc n) r = eqb (record-at T i n) r || under-from T i n r
 unfoldable pub under : Tree → (i r : ℕ) → Bool
 under T i r = under-from T i (suc (height T i)) r
 
--- STAGES. The number is an index on the thread's path: where it joins, stands, or lets go.
+-- STAGES. The number is an index on the thread's path: where the thread joins, stands, or releases.
 pub data Stage : Type 0 where
   out ready inside holding : Stage
   climb queued releasing : ℕ → Stage
 
--- after letting go at index j
+-- the stage after letting go at index j
 unfoldable pub down : ℕ → Stage
 down zero = out
 down (suc j) = releasing j
 
--- at how many of its domains, from the home up, the thread's record is first. h is its height
+-- the number of its domains, from the home up, in which the thread's record is first; h is its height
 unfoldable pub low : (h : ℕ) → Stage → ℕ
 low h out = 0
 low h (climb j) = j
@@ -37,7 +37,7 @@ low h inside = suc h
 low h holding = suc h
 low h (releasing j) = suc j
 
--- at how many it acts: one more where it stands ungranted
+-- the number of domains in which it acts: one more if it stands ungranted
 unfoldable pub acts : (h : ℕ) → Stage → ℕ
 acts h out = 0
 acts h (climb j) = j
@@ -47,7 +47,7 @@ acts h inside = suc h
 acts h holding = suc h
 acts h (releasing j) = suc j
 
--- how many its path must have: one more where it is about to join, or has let go of the one above
+-- the number of domains that its path must have: one more if it is about to join, or has released the one above
 unfoldable pub reach : (h : ℕ) → Stage → ℕ
 reach h out = 0
 reach h (climb j) = suc j
@@ -57,7 +57,7 @@ reach h inside = suc h
 reach h holding = suc h
 reach h (releasing j) = suc (suc j)
 
--- entries still to come before it lets go
+-- how many entries it still makes before it lets go
 unfoldable pub pending : Stage → ℕ
 pending out = 1
 pending (climb j) = 1
@@ -81,7 +81,7 @@ pub data Event : Type 0 where
   begins ends : (d m : ℕ) → Event
   entered : ℕ → Event
 
--- thread i at index j lets go last: it is holding at the root, or releasing lower
+-- thread i lets go at index j, after the domains above: it is holding at the root, or releasing below it
 pub data Last (T : Tree) (st : State) (i j : ℕ) : Type 0 where
   root : st .stage i ≡ holding → j ≡ height T i → Last T st i j
   lower : st .stage i ≡ releasing j → Last T st i j
@@ -112,7 +112,7 @@ pub data Move (T : Tree) (st : State) : Event → State → Type 0 where
       Move T st (entered i) (record { queue = st .queue; stage = put (st .stage) i inside; tally = st .tally })
   leave : (i : ℕ) → st .stage i ≡ inside →
       Move T st nothing (record { queue = st .queue; stage = put (st .stage) i holding; tally = st .tally })
-  -- the lock goes to s, with all domains above index j: a pass below the root, or the root's own release
+  -- s is granted the lock, with all domains above index j: a pass below the root, or the root's own release
   hand-on : (i j s l : ℕ) (xs : List ℕ) → st .stage i ≡ holding → j ≤ height T i → st .stage s ≡ queued l → ancestor T s l ≡ ancestor T i j →
       (ancestor T i j ≢ 0 → st .tally (record-at T i j) < T .threshold (ancestor T i j)) → st .queue (ancestor T i j) ≡ record-at T i j ∷ record-at T s l ∷ xs →
       Move T st (ends (ancestor T i j) (record-at T s l)) (record {
@@ -120,7 +120,7 @@ pub data Move (T : Tree) (st : State) : Event → State → Type 0 where
         stage = put (put (st .stage) i (down j)) s ready;
         tally = put (st .tally) (record-at T s l) (suc (st .tally (record-at T i j)));
       })
-  -- only the domain goes to s, who has yet to climb
+  -- s is granted the domain only, and must still climb
   release : (i j s l : ℕ) (xs : List ℕ) → st .stage i ≡ releasing j → st .stage s ≡ queued l → ancestor T s l ≡ ancestor T i j →
       st .queue (ancestor T i j) ≡ record-at T i j ∷ record-at T s l ∷ xs →
       Move T st (ends (ancestor T i j) (record-at T s l)) (record {
@@ -128,11 +128,11 @@ pub data Move (T : Tree) (st : State) : Event → State → Type 0 where
         stage = put (put (st .stage) i (down j)) s (climb (suc l));
         tally = put (st .tally) (record-at T s l) 1;
       })
-  -- nobody stands behind
+  -- nobody stands after it
   let-go : (i j : ℕ) → Last T st i j → st .queue (ancestor T i j) ≡ record-at T i j ∷ [] →
       Move T st nothing (record { queue = put (st .queue) (ancestor T i j) []; stage = put (st .stage) i (down j); tally = st .tally })
 
--- RUNS: moves, and what they show. A move with no event may be left out of the list
+-- RUNS: moves, and what they show. A move without an event may be left out of the list
 pub data Run (T : Tree) : State → List Event → State → Type 0 where
   done : {st : State} → Run T st [] st
   silent : {st st₁ st₂ : State} {es : List Event} → Move T st nothing st₁ → Run T st₁ es st₂ → Run T st es st₂

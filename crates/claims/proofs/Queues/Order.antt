@@ -1,4 +1,4 @@
--- Along a run: the invariant, at most one inside, and grants in the order of the beginnings.
+-- Along a run: the invariant, at most one thread inside, and grants in the order of the beginnings.
 use mathlib.Core.Path.{_≡_, refl, sym, ap, _∙_}
 use mathlib.Core.List.{List, [], _∷_, _++_, append-nil, append-assoc, nil≢cons, head-eq-of-cons-eq, tail-eq-of-cons-eq}
 use mathlib.Core.Logic.{_≢_}
@@ -30,7 +30,7 @@ one-inside T tree-laws st inv i j e f =
     let hj : j < T .threads = inv .threads j .real (rw f (omega arith)) in
     one-head T tree-laws st inv i j (height T i) (height T j) (rw e (omega arith)) (rw f (omega arith)) (tree-laws .top i hi ∙ sym (tree-laws .top j hj)) .0
 
--- WHO STANDS SECOND: a thread queued there acts for it. (For whoever has to make a hand-over.)
+-- THE SECOND of a queue: the thread that acts for it stands there
 pub standing : (h k : ℕ) (x : Stage) → low h x ≤ k → k < acts h x → x ≡ queued k
 unfolding low acts
 standing h k out a b = absurd (omega arith)
@@ -159,12 +159,12 @@ order T d (more {st = st} {st₁ = st₁} {st₂ = st₂} {e = e} {es = es} m r)
     ∙ append-assoc (given-by d e) (rest (st₁ .queue d)) (begun d es) ∙ ap (λ q. given-by d e ++ q) all
     ∙ sym (append-assoc (given-by d e) (given d es) (rest (st₂ .queue d)))
 
--- from the start: who began to stand is whose standing ended, in order, and then who still stands
+-- from the start: the members that began to stand are those whose standing ended, in the same order, and then those that still stand
 pub in-order : (T : Tree) (d : ℕ) {st : State} {es : List Event} → Run T empty es st → begun d es ≡ given d es ++ rest (st .queue d)
 unfolding empty rest
 in-order T d r = order T d r
 
--- RUNS, JOINED AND CUT at a place of their events
+-- RUNS, JOINED AND SPLIT at a position in their events
 pub join-runs : (T : Tree) {st₁ st₂ st₃ : State} {xs ys : List Event} → Run T st₁ xs st₂ → Run T st₂ ys st₃ → Run T st₁ (xs ++ ys) st₃
 join-runs T done s = s
 join-runs T (silent m r) s = silent m (join-runs T r s)
@@ -203,7 +203,7 @@ next-shown T (silent m r) e es z =
 next-shown T (more {st = st} {st₁ = st₁} m r) e es z =
     record { st₁ = st; st₂ = st₁; before = done; move = rw (head-eq-of-cons-eq z) at m; after = rw (tail-eq-of-cons-eq z) at r }
 
--- whose beginning is shown, stands
+-- a member whose beginning is shown stands
 pub begins-stands : (T : Tree) {st : State} (st′ : State) {d m : ℕ} → Move T st (begins d m) st′ → 1 ≤ count m (rest (st′ .queue d))
 begins-stands T {st = st} st′ (join-after i j a e f) =
     let L = ancestor T i j in

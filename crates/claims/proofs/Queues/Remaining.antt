@@ -1,4 +1,4 @@
--- What a thread's record has left to enter while it is first, and that each move leaves it no more than before.
+-- How many entries a thread's record has left while it is first, and that no move increases this number.
 use mathlib.Core.Path.{_≡_, refl, sym, ap, _∙_}
 use mathlib.Core.List.{List, [], _∷_}
 use mathlib.Core.Logic.{_≢_}
@@ -25,7 +25,7 @@ room t v M x a b c =
     more-room : (w : ℕ) → suc w * M ≤ t * M → w * M + x ≤ t * M
     more-room w h = omega arith
 
--- one tenure less, and a whole one for the next
+-- one tenure less, and a full one for the next
 next-room : (t v M x y : ℕ) → v < t → x ≤ M → (t - suc v) * M + x ≤ (t - v) * M + y
 next-room t v M x y a c =
     let w = t - suc v in
@@ -35,7 +35,7 @@ next-room t v M x y a c =
     wide : (w : ℕ) → w * M + x ≤ suc w * M + y
     wide w = omega arith
 
--- WHAT IS LEFT: the entries that thread i, first at the indices up to k, and those after it can still make under its record at k
+-- WHAT IS LEFT: how many entries thread i, which is first at the indices up to k, and those after it can still make under its record at k
 unfoldable pub left : Tree → (tally : ℕ → ℕ) (x : Stage) (i k : ℕ) → ℕ
 left T t x i zero = pending x
 left T t x i (suc k) = (T .threshold (ancestor T i k) - t (record-at T i k)) * member-allowance T (ancestor T i k) + left T t x i k
@@ -55,7 +55,7 @@ unfolding pending down
 pending-down zero h = absurd (omega arith)
 pending-down (suc j) h = refl
 
--- it falls where the pending entry is made, and the tallies below are kept
+-- it decreases when the pending entry is made and the tallies below do not change
 left-same :
     (T : Tree) (t t′ : ℕ → ℕ) (x x′ : Stage) (i n k : ℕ) → pending x′ + n ≤ pending x → ((l : ℕ) → l < k → t′ (record-at T i l) ≡ t (record-at T i l)) →
     left T t′ x′ i k + n ≤ left T t x i k
@@ -87,7 +87,7 @@ module _ (T : Tree) (tree-laws : Laws T) (st : State) (inv : Inv T st) where
       let r = room (T .threshold (ancestor T i k)) (st .tally (record-at T i k)) (member-allowance T (ancestor T i k)) (left T (st .tally) (st .stage i) i k) (c .0) (c .1) (omega arith) in
       omega (arith, tree-laws .of-domain i k (f .0) (omega (arith, f .2)))
 
--- ONE MOVE: whoever is first at a queue where its record was first before has no more left than whoever acted for it, less its entry
+-- ONE MOVE: if a queue keeps its first record, the thread that now acts for it has no more entries left than the one before, minus the entry of this move
 pub record Before (T : Tree) (st : State) (i k n : ℕ) : Type 0 where
   pub thread : ℕ
   pub index : ℕ
@@ -103,7 +103,7 @@ module _ (T : Tree) (tree-laws : Laws T) (st : State) (inv : Inv T st) where
   itself t′ x′ i k n h p g =
       record { thread = i; index = k; was-first = h; same = refl; falls = left-same T (st .tally) t′ (st .stage i) x′ i n k p g }
 
-  -- a tally written at the record of a thread about to join, or that stands, is no tally of a first record
+  -- the record of a thread that is about to join or stands is not first, so a tally written there is no tally of a first record
   pub joining-far : (i j : ℕ) → st .stage i ≡ climb j → (n l : ℕ) → l < low (height T n) (st .stage n) → record-at T n l ≢ record-at T i j
   joining-far i j e n l h z =
       let o : count (record-at T n l) (st .queue (ancestor T n l)) ≡ 0 = rw z (fresh T tree-laws st inv i j (ancestor T n l) e) in
@@ -118,7 +118,7 @@ module _ (T : Tree) (tree-laws : Laws T) (st : State) (inv : Inv T st) where
       let c = u .1 in
       omega arith
 
-  -- what falls in the move, for the thread n, first at index k after it
+  -- what the move leaves for a thread n that is first at index k after it
   abbrev pub Falls : Event → (stage′ : ℕ → Stage) (tally′ : ℕ → ℕ) → Type 0
   Falls e f t =
       (n k : ℕ) → k < low (height T n) (f n) → first (st .queue (ancestor T n k)) ≡ suc (record-at T n k) → Before T st n k (left T t (f n) n k + hit e n)
@@ -156,7 +156,7 @@ module _ (T : Tree) (tree-laws : Laws T) (st : State) (inv : Inv T st) where
   unfolding hit low pending
   falls-leave i e = falls-one nothing i holding (st .tally) (λ n l b. refl) (λ n z. refl) (λ k h f. rw e (h, omega arith))
 
-  -- a record that was first was not where the queue was empty
+  -- a record that was first was in a queue that was not empty
   not-empty : (i j k : ℕ) → st .queue (ancestor T i j) ≡ [] → first (st .queue (ancestor T i k)) ≡ suc (record-at T i k) → k ≢ j
   not-empty i j k z f w = let g : first (st .queue (ancestor T i k)) ≡ 0 = rw w (rw z first-nil) in omega arith
 
@@ -254,7 +254,7 @@ module _ (T : Tree) (tree-laws : Laws T) (st : State) (inv : Inv T st) where
     unfolding acts
     heights e h = same-height T tree-laws s l i j (successor-real .0) (acts-real T tree-laws st inv i j (rw e (omega arith)) .0) (successor-real .2) h meet
 
-    -- what the successor has left at the index where it stood is less than a tenure
+    -- what the successor has left at the index where it stood is at most one tenure
     successor-left : l < height T s → left T (put (st .tally) (record-at T s l) (suc (st .tally (record-at T i j)))) ready s l ≤ member-allowance T (ancestor T s l)
     unfolding acts low pending
     successor-left b =

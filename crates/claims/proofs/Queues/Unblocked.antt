@@ -1,4 +1,4 @@
--- Where a thread is on its way, one is that stands ungranted nowhere.
+-- If some thread is acquiring or releasing, then some such thread stands ungranted nowhere.
 use mathlib.Core.Path.{_≡_, refl}
 use mathlib.Core.List.{List, [], _∷_}
 use Prim.Native.Nat.{ℕ, zero, suc, _+_, _≤_, _<_}
@@ -12,7 +12,7 @@ use Rattle.claims.proofs.Queues.Moves.{low, acts, reach, State}
 use Rattle.claims.proofs.Queues.Invariant.{low-acts, acts-low, acts-reach, Inv}
 use Rattle.claims.proofs.Queues.Remaining.{acts-real}
 
--- a thread on its way whose record is first wherever it acts
+-- a thread that acquires or releases, and whose record is first wherever it acts
 pub record Unblocked (T : Tree) (st : State) : Type 0 where
   pub thread : ℕ
   pub busy : 0 < reach (height T thread) (st .stage thread)
@@ -28,7 +28,7 @@ module _ (T : Tree) (tree-laws : Laws T) (st : State) (inv : Inv T st) where
   abbrev pub lo : ℕ → ℕ
   lo i = low (height T i) (st .stage i)
 
-  -- WHO ACTS FOR THE FIRST of a queue
+  -- THE THREAD THAT ACTS FOR THE FIRST of a queue
   pub record Holder (d r : ℕ) : Type 0 where
     pub thread : ℕ
     pub index : ℕ
@@ -51,7 +51,7 @@ module _ (T : Tree) (tree-laws : Laws T) (st : State) (inv : Inv T st) where
       let s′ : 1 ≤ count r (rest (st .queue d)) = rw (← z, c .place, c .mine) at s in
       absurd (omega (arith, first-count r (st .queue d) f, inv .once d r)))
 
-  -- whoever stands has such a thread before it, whose own place is higher up
+  -- a thread that stands has such a holder ahead of it, which is nearer to the root
   record Higher (i : ℕ) : Type 0 where
     thread : ℕ
     higher : height T thread + suc (lo i) ≤ height T i + lo thread
@@ -70,7 +70,7 @@ module _ (T : Tree) (tree-laws : Laws T) (st : State) (inv : Inv T st) where
       let e = same-height T tree-laws n (c .index) i (lo i) (c .real) (t .real (omega arith)) (c .within) (omega (arith, t .range)) (c .there) in
       record { thread = n; higher = omega arith; busy = omega arith }
 
-  -- from one who stands up the tree, which ends
+  -- from a thread that stands, up the tree to the end
   up : (f i : ℕ) → height T i < f + lo i → 0 < reach (height T i) (st .stage i) → Unblocked T st
   up zero i h b =
       record { thread = i; busy = b; nowhere = omega (arith, low-acts (height T i) (st .stage i), acts-reach (height T i) (st .stage i), inv .threads i .range) }

@@ -36,7 +36,7 @@ module _ (t : Tree) (valid : Accepted t) (s : WordState) (room : Room s) (g : St
   few : i < 256
   few = omega (arith, valid .few-threads)
 
-  -- the domain and the record at an index are within the room
+  -- the domain and the record at an index are within the arrays
   domain-small : (k : ℕ) → ancestor t i k < 64
   domain-small k = omega (arith, ancestor-real t valid i h k, valid .few-domains)
 
@@ -103,7 +103,7 @@ module _ (t : Tree) (valid : Accepted t) (s : WordState) (room : Room s) (g : St
   wait-outcome rep k l sw =
       rw (ungranted-row t i s (ancestor t i k) (rw (own-record-at t valid i h k l) sw)) (outcome _ g (record { same = refl; room = room }) rep unmoved refl refl)
 
-  -- WAIT, granted and to acquire the parent
+  -- WAIT, granted the domain only
   pub woken-outcome :
       (k : ℕ) → k < height t i → g .stage i ≡ climb (suc k) → Counted t w g i k → w .statuses (record-at t i k) ≡ acquire-parent →
       g .tally (record-at t i k) ≡ 1 → Outcome t g i (ancestor t i k) (Wait (ancestor t i k)) (wait-row t i (ancestor t i k) s)
@@ -124,7 +124,7 @@ module _ (t : Tree) (valid : Accepted t) (s : WordState) (room : Room s) (g : St
       replaced t valid w g i h o entered-state Inside inside (keeps t (laws t valid) g (o .invariant) (enter i e)) refl refl (put-same (g .stage) i inside i refl)
       (λ j n. put-other (g .stage) i inside j n) (at-inside c)
 
-  -- the word that says so: UNLOCKED at the root, below it a count
+  -- the word for this: UNLOCKED at the root, a count below it
   pub ready-row :
       Sixteen-bit t → (k : ℕ) → k ≤ height t i → g .stage i ≡ ready → (k < height t i → w .statuses (record-at t i k) ≡ g .tally (record-at t i k)) →
       (k ≡ height t i → w .statuses (record-at t i k) ≡ 0) → Granted t i s (ancestor t i k) (wait-row t i (ancestor t i k) s)

@@ -1,4 +1,4 @@
--- The rows of a ticket lock at the root by which a thread acquires it: Draw, Idle's own where the root is home, and Watch.
+-- The rows with which a thread acquires a ticket lock at the root: Draw, Idle if the root is home, and Watch.
 use mathlib.Core.Path.{_≡_, refl, sym, ap, _∙_}
 use mathlib.Core.Bool.{true, false}
 use mathlib.Core.List.{List, [], _∷_, _++_}
@@ -42,7 +42,7 @@ some-first (x ∷ xs) n = (x, first-cons x xs)
 pub begins-at : (t : Tree) (g g′ : State) (d e m : ℕ) → d ≡ e → Move t g (begins d m) g′ → Move t g (begins e m) g′
 begins-at t g g′ d e m z mv = rw z at mv
 
--- the members at a ticket root, few enough for the counters
+-- the queue at a ticket root is short enough for the counters
 pub root-short : (t : Tree) → Accepted t → (g : State) → Inv t g → length (g .queue 0) ≤ 320
 root-short t valid g inv = list-short 320 (g .queue 0) (member-small t valid g inv 0) (inv .once 0)
 
@@ -97,7 +97,7 @@ module _ (t : Tree) (valid : Accepted t) (s : WordState) (room : Room s) (g : St
                 (λ a m. others-kept a (away t valid w g i h o k within e 0 a m)) (old .held));
           })
 
-    -- the ticket equals the grant exactly where nobody is there
+    -- the ticket equals the grant exactly if the queue is empty
     pub nobody-there : w .ticket ≡ w .grant → g .queue L ≡ []
     nobody-there z =
         let old = o .numbered root in
@@ -151,7 +151,7 @@ module _ (t : Tree) (valid : Accepted t) (s : WordState) (room : Room s) (g : St
             (outcome _ _ (draw-placed s room i few Watch R (s .ticket) (wrap (s .ticket + 1)) (record-small t valid i h k within)) (draw-watches e c other)
             (moved mv) refl (made-begins t mv))
 
-  -- WATCH: not shown yet
+  -- WATCH: the ticket is not shown yet
   pub not-shown : g .stage i ≡ queued (height t i) → status s (record-at t i (height t i)) ≢ s .grant
   unfolding words-in low acts
   not-shown e =
@@ -169,7 +169,7 @@ module _ (t : Tree) (valid : Accepted t) (s : WordState) (room : Room s) (g : St
       by (watch-shown same) = absurd (not-shown e (rw (root-record t valid i h) at same))
       by (watch-unshown _) = outcome _ g (record { same = refl; room = room }) rep unmoved refl refl
 
-  -- shown: the first at the root
+  -- the ticket is shown: the thread is first at the root
   pub is-shown : g .stage i ≡ ready → status s (record-at t i (height t i)) ≡ s .grant
   unfolding words-in low
   is-shown e =

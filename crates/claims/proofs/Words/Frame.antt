@@ -1,4 +1,4 @@
--- One thread's step: what the others keep, and how a new state is put together.
+-- One thread's step: what does not change for the others, and how the new state is built.
 use mathlib.Core.Path.{_≡_, refl, sym, ap, _∙_}
 use mathlib.Core.Bool.{true, false}
 use mathlib.Core.List.{List, [], _∷_}
@@ -17,7 +17,7 @@ use Rattle.claims.proofs.Words.Links.{after}
 use Rattle.claims.proofs.Words.View.{Words, place-to}
 use Rattle.claims.proofs.Words.Represents.{Linked, Tickets, Numbered, Counted, Fits, Represents, Apart, left-alone}
 
--- all that a state represents, but for what thread i's place says
+-- everything that a state represents, except what thread i's place implies
 pub record Others (t : Tree) (w : Words) (g : State) (i : ℕ) : Type 0 where
   pub invariant : Inv t g
   pub linked : (d : ℕ) → is-ticket t d ≡ false → Linked w (g .queue d) d
@@ -27,7 +27,7 @@ pub record Others (t : Tree) (w : Words) (g : State) (i : ℕ) : Type 0 where
 pub others-of : {t : Tree} {w : Words} {g : State} → Represents t w g → (i : ℕ) → Others t w g i
 others-of r i = record { invariant = r .invariant; linked = r .linked; numbered = r .numbered; others = λ j h n. r .fits j h }
 
--- tickets stay where the members' statuses stay
+-- tickets do not change if the members' statuses do not
 pub tickets-kept :
     (f f′ : ℕ → ℕ) (v b : ℕ) (q : List ℕ) → ((a : ℕ) → 1 ≤ count a q → f′ a ≡ f a) → Tickets f v b q → Tickets f′ v b q
 unfolding Tickets
@@ -38,7 +38,7 @@ tickets-kept f f′ v b (m ∷ ms) s h = (
 )
 
 module _ (t : Tree) (valid : Accepted t) (w : Words) (g : State) (i : ℕ) (h : i < t .threads) (o : Others t w g i) where
-  -- a thread's records, up to where it is first, are its own
+  -- up to the index where a thread is first, its records are no other thread's
   pub below-low : (j k : ℕ) → k ≤ low (height t j) (g .stage j) → Below t (g .queue) j k
   below-low j k b n l = o .invariant .threads j .heads n (omega arith)
 
@@ -51,7 +51,7 @@ module _ (t : Tree) (valid : Accepted t) (w : Words) (g : State) (i : ℕ) (h : 
   pub lower-record : (k m : ℕ) → k ≤ height t i → m < k → record-at t i m ≢ record-at t i k
   lower-record k m a b e = let z = record-injective t valid i h m k (omega arith) a e in omega arith
 
-  -- counts below an index, where statuses and counts change at the record there alone
+  -- counts below an index, if statuses and counts change only at the record there
   pub counted-below :
       (w′ : Words) (g′ : State) (k : ℕ) → k ≤ height t i → ((r : ℕ) → r ≢ record-at t i k → w′ .statuses r ≡ w .statuses r) →
       ((r : ℕ) → r ≢ record-at t i k → g′ .tally r ≡ g .tally r) → Counted t w g i k → Counted t w′ g′ i k
@@ -59,13 +59,13 @@ module _ (t : Tree) (valid : Accepted t) (w : Words) (g : State) (i : ℕ) (h : 
       let n = lower-record k m a b in
       st (record-at t i m) n ∙ c m b l ∙ sym (ta (record-at t i m) n)
 
-  -- and up to it, where the new status is the new count
+  -- and up to it, if the new status is the new count
   pub counted-through :
       (w′ : Words) (g′ : State) (k : ℕ) → Counted t w′ g′ i k → w′ .statuses (record-at t i k) ≡ g′ .tally (record-at t i k) → Counted t w′ g′ i (suc k)
   counted-through w′ g′ k c e m b l =
       same-or m k _ (λ z. rw z e) (λ z. c m (omega arith) l)
 
-  -- the others are left alone by a step that changes words at its own record there alone
+  -- a step that changes words only at its own record there does not affect the others
   pub apart :
       (w′ : Words) (g′ : State) (k : ℕ) → k ≤ low (height t i) (g .stage i) → (j : ℕ) → j < t .threads → j ≢ i → w′ .places j ≡ w .places j →
       g′ .stage j ≡ g .stage j → ((r : ℕ) → r ≢ record-at t i k → w′ .statuses r ≡ w .statuses r) →
@@ -87,7 +87,7 @@ module _ (t : Tree) (valid : Accepted t) (w : Words) (g : State) (i : ℕ) (h : 
         not-last = λ l b. tl (ancestor t j l) (record-at t j l) (far l (omega arith));
       }
 
-  -- a ticket lock keeps its tickets, where its queue and the statuses of its members stay
+  -- a ticket lock keeps its tickets if its queue and the statuses of its members do not change
   pub numbered-kept :
       (w′ : Words) (g′ : State) → w′ .ticket ≡ w .ticket → w′ .grant ≡ w .grant → (t .ticket-root ≡ true → g′ .queue 0 ≡ g .queue 0) →
       (t .ticket-root ≡ true → (a : ℕ) → 1 ≤ count a (g .queue 0) → w′ .statuses a ≡ w .statuses a) → t .ticket-root ≡ true → Numbered w′ (g′ .queue 0)
@@ -95,7 +95,7 @@ module _ (t : Tree) (valid : Accepted t) (w : Words) (g : State) (i : ℕ) (h : 
       let old = o .numbered e in
       rw (qu e) (record { small = rw gr (old .small); held = rw (ti, gr) (tickets-kept (w .statuses) (w′ .statuses) (w .grant) (w .ticket) (g .queue 0) (st e) (old .held)) })
 
-  -- a new state, from its parts
+  -- a new state, assembled from its parts
   pub assembled :
       (w′ : Words) (g′ : State) (p : Place) (x : Stage) → Inv t g′ → ((d : ℕ) → is-ticket t d ≡ false → Linked w′ (g′ .queue d) d) → (t .ticket-root ≡ true → Numbered w′ (g′ .queue 0)) → w′ .places i ≡ p → g′ .stage i ≡ x →
       Fits t w′ g′ i p x → ((j : ℕ) → j < t .threads → j ≢ i → Apart t w g w′ g′ j) → Represents t w′ g′
@@ -107,7 +107,7 @@ module _ (t : Tree) (valid : Accepted t) (w : Words) (g : State) (i : ℕ) (h : 
         fits = λ j hj. same-or j i _ (λ z. rw z (rw (ep, ex) f)) (λ z. left-alone (ap′ j hj z) (o .others j hj z));
       }
 
-  -- only the thread's place, and its stage, are new
+  -- only the thread's place and stage are new
   pub replaced :
       (g′ : State) (p : Place) (x : Stage) → Inv t g′ → g′ .queue ≡ g .queue → g′ .tally ≡ g .tally → g′ .stage i ≡ x →
       ((j : ℕ) → j ≢ i → g′ .stage j ≡ g .stage j) → Fits t (place-to i p w) g′ i p x → Represents t (place-to i p w) g′

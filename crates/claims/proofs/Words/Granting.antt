@@ -1,4 +1,4 @@
--- Grant: the member that is granted, and the grant with a count, at the root, and with ACQUIRE_PARENT.
+-- Grant: the member that is granted; a grant with a count, at the root, and with ACQUIRE_PARENT.
 use mathlib.Core.Path.{_≡_, refl, sym, ap, _∙_}
 use mathlib.Core.Bool.{false, true, false≢true}
 use mathlib.Core.List.{List, _∷_}
@@ -29,14 +29,14 @@ use Rattle.claims.proofs.Words.Handing.{successor-other, handed-state, 
 use Rattle.claims.proofs.Words.Links.{final, after, final-second, after-here, after-past, before-second}
 use Rattle.claims.proofs.Words.Says.{Ungranted, linking, waiting, watching, ungranted}
 
--- a new state of the queues by a move, with the words that stand for it
+-- the queues after a move that grants, and that the words represent them
 pub record Granted (t : Tree) (g : State) (w′ : Words) (d m : ℕ) : Type 0 where
   pub state : State
   pub move : Move t g (ends d m) state
   pub small : m < 320
   pub represents : Represents t w′ state
 
--- a member that is granted: it is second in the queue, as the next says, and in Wait
+-- a member that is granted: it is second in the queue, named by the next, and in Wait
 module _ (t : Tree) (valid : Accepted t) (w : Words) (g : State) (i : ℕ) (h : i < t .threads) (o : Others t w g i) (k : ℕ) (l : k ≤ height t i)
     (first-there : k < low (height t i) (g .stage i)) (nt : is-ticket t (ancestor t i k) ≡ false) (r : ℕ) (own : w .nexts (record-at t i k) ≡ suc r) where
   abbrev inv : Inv t g
@@ -76,7 +76,7 @@ module _ (t : Tree) (valid : Accepted t) (w : Words) (g : State) (i : ℕ) (h : 
   small : r < 320
   small = rw (successor .mine) at (record-small t valid S (successor .real) N (successor .within))
 
-  -- the successor is in Wait: a linking one's predecessor has no next yet
+  -- the successor is in Wait: if it were in Link, its predecessor would have no next yet
   successor-waits : S ≢ i → (w .places S ≡ Wait (ancestor t S N)) × Counted t w g S N
   successor-waits n = by (ungranted N (successor .waits) (o .others S (successor .real) n))
     where
@@ -134,7 +134,7 @@ module _ (t : Tree) (valid : Accepted t) (w : Words) (g : State) (i : ℕ) (h : 
         hand t valid w g i h o k l first-there r rest-two shape-two successor c x n granted-words (put-same (w .places) i (done-at t i k) i refl)
         (λ j e. put-other (w .places) i (done-at t i k) j e) status-far (λ q. refl) (λ d. refl) inv′ popped-linked popped-numbered ci (y .1) (λ f. rw (y .0) (fit f))
 
-  -- the stage of a thread that grants is no standing
+  -- a thread that grants does not stand
   not-queued : (x : Stage) → g .stage i ≡ x → low (height t i) x ≡ acts (height t i) x → g .stage i ≢ queued N
   not-queued x e z q = firm (height t i) N x (sym e ∙ q) z
 
@@ -159,7 +159,7 @@ module _ (t : Tree) (valid : Accepted t) (w : Words) (g : State) (i : ℕ) (h : 
     unfolding low
     low-i = rw e refl
 
-    -- from where the successor stood up, its records are those of the one who grants
+    -- above the index where the successor stood, its records are those of the thread that grants
     above-counted : (m : ℕ) → N < m → m < height t S → w′ .statuses (record-at t S m) ≡ g′ .tally (record-at t S m)
     above-counted m b q =
         let hs = successor .real in
@@ -208,7 +208,7 @@ module _ (t : Tree) (valid : Accepted t) (w : Words) (g : State) (i : ℕ) (h : 
               (λ m b q. counted m (omega arith) q) successor-ready;
         }
 
-  -- ONLY THE DOMAIN: the successor has yet to acquire the parent
+  -- ONLY THE DOMAIN: the successor must still acquire the parent
   module _ (e : g .stage i ≡ releasing k) (b : k < height t i) (counted : Counted t w g i k) where
     nq-lower : g .stage i ≢ queued N
     unfolding low acts

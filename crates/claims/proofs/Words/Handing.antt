@@ -1,4 +1,4 @@
--- The second of a queue becomes its first: whoever was first lets go, the second's stage and count are new, and all others keep fitting.
+-- The second of a queue becomes its first: the old first lets go, the second has a new stage and count, and all others still fit.
 use mathlib.Core.Path.{_≡_, refl, sym, ap, _∙_}
 use mathlib.Core.Bool.{true, false}
 use mathlib.Core.List.{List, _∷_}
@@ -47,7 +47,7 @@ module _ (t : Tree) (valid : Accepted t) (w : Words) (g : State) (i : ℕ) (h : 
     abbrev pub handed-state : State
     handed-state = record { queue = put (g .queue) L (r ∷ ys); stage = put (put (g .stage) i (down k)) S x; tally = put (g .tally) r c }
 
-    -- counts at other records than the successor's stay
+    -- the counts of all records but the successor's stay
     pub tally-far : (q : ℕ) → q ≢ r → handed-state .tally q ≡ g .tally q
     tally-far q e = put-other (g .tally) r c q e
 
@@ -61,7 +61,7 @@ module _ (t : Tree) (valid : Accepted t) (w : Words) (g : State) (i : ℕ) (h : 
         ns (same-user t (g .queue) j S (omega arith) (omega arith) m N (below-low t valid w g i h o j m a)
         (below-low t valid w g i h o S N (omega (arith, successor-low))) (e ∙ sym (b .mine)) .0)
 
-    -- the words after it: the thread's place, and no status but the successor's
+    -- the words after it: the thread's place changes, and no status but the successor's
     module _ (w′ : Words) (done : w′ .places i ≡ done-at t i k) (places : (j : ℕ) → j ≢ i → w′ .places j ≡ w .places j)
         (statuses : (q : ℕ) → q ≢ r → w′ .statuses q ≡ w .statuses q) (nexts : (q : ℕ) → w′ .nexts q ≡ w .nexts q) (tails : (d : ℕ) → w′ .tails d ≡ w .tails d) where
       handed-apart : (j : ℕ) → j < t .threads → j ≢ i → j ≢ S → Apart t w g w′ handed-state j
@@ -88,7 +88,7 @@ module _ (t : Tree) (valid : Accepted t) (w : Words) (g : State) (i : ℕ) (h : 
             not-last = λ m b z y. z (sym (tails (ancestor t j m)) ∙ y);
           }
 
-      -- the successor's counts below where it stood
+      -- the successor's counts below the index where it stood
       successor-counted : Counted t w g S N → Counted t w′ handed-state S N
       successor-counted f m a q =
           let away : record-at t S m ≢ r = λ e. let z = record-injective t valid S (b .real) m N (omega (arith, b .within)) (b .within) (e ∙ sym (b .mine)) in omega arith in

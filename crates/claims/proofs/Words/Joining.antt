@@ -1,4 +1,4 @@
--- The rows by which a thread joins a queue: Prep, Swap, Link, and Wait with ACQUIRE_PARENT.
+-- The rows with which a thread joins a queue: Prep, Swap, Link, and Wait with ACQUIRE_PARENT.
 use mathlib.Core.Path.{_≡_, refl, sym, ap, _∙_}
 use mathlib.Core.Bool.{true, false}
 use mathlib.Core.List.{List, [], _∷_, _++_}
@@ -25,7 +25,7 @@ use Rattle.claims.proofs.Words.View.{Words, tail-to, next-to, status-to
 use Rattle.claims.proofs.Words.Represents.{waiting-word, Linked, Numbered, Counted, Fits, at-prep, at-swap, at-link, at-wait, at-inside, at-draw, Represents, Apart}
 use Rattle.claims.proofs.Words.Frame.{Others, counted-below, counted-through, apart, numbered-kept, assembled}
 
--- the place after a domain is acquired, at an index below the root: Prep or Draw at the index above
+-- the place after a domain below the root is acquired: Prep or Draw at the index above
 pub acquired-fits :
     (t : Tree) → Accepted t → (w : Words) (g : State) (i : ℕ) → i < t .threads → (k : ℕ) → k ≤ height t i → Counted t w g i k →
     Fits t w g i (acquire-place t (ancestor t i k)) (climb k)
@@ -76,7 +76,7 @@ module _ (t : Tree) (valid : Accepted t) (w : Words) (g : State) (i : ℕ) (h : 
       (changed (w .statuses) (waiting-word L)) (λ r q. refl) (changed (w .nexts) none)
       (λ m p q nd a. (a, changed (w .nexts) none p (away e (ancestor t j m) p (after-in (g .queue (ancestor t j m)) p (record-at t j m) a)))) (λ d r q z. z))
 
-  -- SWAP: the record at the end of the queue
+  -- SWAP: the record joins at the end of the queue
   abbrev pub grown : ℕ → List ℕ
   grown = put (g .queue) L (g .queue L ++ (R ∷ []))
 
@@ -109,7 +109,7 @@ module _ (t : Tree) (valid : Accepted t) (w : Words) (g : State) (i : ℕ) (h : 
           next-same p,
         )) tl
 
-    -- where the domain has a queue, a ticket lock is another
+    -- if the domain has a queue, a ticket lock is another domain
     pub join-numbered :
         is-ticket t L ≡ false → g .stage i ≡ climb k → w′ .ticket ≡ w .ticket → w′ .grant ≡ w .grant → ((r : ℕ) → r ≢ R → w′ .statuses r ≡ w .statuses r) →
         t .ticket-root ≡ true → Numbered w′ (g′ .queue 0)
@@ -145,7 +145,7 @@ module _ (t : Tree) (valid : Accepted t) (w : Words) (g : State) (i : ℕ) (h : 
       pub join-linked : (d : ℕ) → is-ticket t d ≡ false → Linked w′ (g′ .queue d) d
       join-linked d nd = rw queues (grown-linked d nd)
 
-  -- the queues with the record at the end: the thread inside, or standing there
+  -- the queues with the record at the end: the thread is inside, or stands there
   abbrev pub took-root-state : State
   took-root-state = record { queue = grown; stage = put (g .stage) i inside; tally = g .tally }
 
@@ -156,7 +156,7 @@ module _ (t : Tree) (valid : Accepted t) (w : Words) (g : State) (i : ℕ) (h : 
     pub empty-there : w .tails L ≡ 0 → g .queue L ≡ []
     empty-there tl = final-none (g .queue L) (sym (o .linked L nt .last) ∙ tl)
 
-    -- none there, at the root
+    -- the queue was empty, at the root
     abbrev pub took-root : Words
     took-root = place-to i Inside (status-to R unlocked swapped)
 
@@ -171,7 +171,7 @@ module _ (t : Tree) (valid : Accepted t) (w : Words) (g : State) (i : ℕ) (h : 
         (λ j hj n. join-apart took-root took-root-state refl refl e j hj n (put-other (w .places) i Inside j n) (put-other (g .stage) i inside j n) st
         (λ r q. refl) swapped-last)
 
-    -- none there, elsewhere
+    -- the queue was empty, elsewhere
     abbrev pub took : (p : Place) → Words
     took p = place-to i p (status-to R cohort-start swapped)
 
@@ -192,7 +192,7 @@ module _ (t : Tree) (valid : Accepted t) (w : Words) (g : State) (i : ℕ) (h : 
         (put-same (w .statuses) R cohort-start R refl ∙ sym (put-same (g .tally) R 1 R refl))))
         (λ j hj n. join-apart (took p) took-state refl refl e j hj n (put-other (w .places) i p j n) (put-other (g .stage) i (climb (suc k)) j n) st ta swapped-last)
 
-    -- another record there
+    -- another record was the last
     abbrev pub stood : Words
     stood = place-to i (Link L (w .tails L - 1)) swapped
 
@@ -262,7 +262,7 @@ module _ (t : Tree) (valid : Accepted t) (w : Words) (g : State) (i : ℕ) (h : 
           not-last = λ m b z. z;
         })
 
-  -- WAIT with ACQUIRE_PARENT: its count starts, and on to the parent
+  -- WAIT with ACQUIRE_PARENT: its count starts, and the parent is next
   abbrev pub climbed : (p : Place) → Words
   climbed p = place-to i p (status-to R cohort-start w)
 

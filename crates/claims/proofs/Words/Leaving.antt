@@ -40,7 +40,7 @@ module _ (t : Tree) (valid : Accepted t) (s : WordState) (room : Room s) (g : St
   few : i < 256
   few = omega (arith, valid .few-threads)
 
-  -- only the place changes, and no queue moves
+  -- only the place changes, and no queue changes
   pub stands-still : (p : Place) (x : Stage) → g .stage i ≡ x → Fits t (place-to i p w) g i p x → Represents t (place-to i p w) g
   stands-still p x e f = replaced t valid w g i h o g p x (o .invariant) refl refl e (λ j n. refl) f
 
@@ -97,7 +97,7 @@ module _ (t : Tree) (valid : Accepted t) (s : WordState) (room : Room s) (g : St
           rw (ancestor-parent-of t valid i h k b)
           (outcome _ g (placed s room i few p) (stands-still p holding e (release-fits (place-to i p w) g (suc k) b c _ _ refl refl)) unmoved refl refl)
 
-  -- GRANT, where the queues move with it
+  -- GRANT, given the move of the queues
   granted-outcome :
       (k : ℕ) → k ≤ height t i → (r v : ℕ) → Granted t g (place-to i (done-at t i k) (status-to r v w)) (ancestor t i k) r →
       Outcome t g i (ancestor t i k) (Grant (ancestor t i k) r v) (grant-row t i (ancestor t i k) r v s)
@@ -108,7 +108,7 @@ module _ (t : Tree) (valid : Accepted t) (s : WordState) (room : Room s) (g : St
       by (grant-writes _ _ _) =
           rw (done-place-at t valid i h k l) (outcome _ (x .state) (status-placed s room i few (done-at t i k) r v (x .small)) (x .represents) (moved (x .move)) refl (made-ends t (x .move)))
 
-  -- at the places where a domain is let go last
+  -- at the places from which a thread lets go of a domain, after those above
   module _ (k : ℕ) (l : k ≤ height t i) (nt : is-ticket t (ancestor t i k) ≡ false) (e : g .stage i ≡ letting-go (height t i) k) (c : Counted t w g i (suc k)) where
     pub first-there : k < low (height t i) (g .stage i)
     first-there = rw e (omega (arith, letting-go-low (height t i) k))

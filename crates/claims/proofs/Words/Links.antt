@@ -1,4 +1,4 @@
--- The last of a queue, and who comes after a member: what a tail and the nexts say.
+-- The last of a queue, and who comes after a member: the meaning of a tail and the nexts.
 use mathlib.Core.Path.{_≡_, refl, sym, _∙_}
 use mathlib.Core.Bool.{cond}
 use mathlib.Core.List.{List, [], _∷_, _++_}
@@ -9,13 +9,13 @@ use lib.Dec.{eqb}
 use borrow.Author.Tests.{eq-eqb, ne-eqb}
 use Rattle.model.proofs.Lists.{same-or, first, rest, is-same, is-other, count, count-cons, count-rest, first-in}
 
--- 0 for none, else one more than the last
+-- 0 for an empty queue, else one more than its last
 unfoldable pub final : List ℕ → ℕ
 final [] = 0
 final (x ∷ []) = suc x
 final (x ∷ y ∷ ys) = final (y ∷ ys)
 
--- 0 for none, else one more than the member after a
+-- 0 if nothing is after a, else one more than the member after a
 unfoldable pub after : List ℕ → ℕ → ℕ
 after [] a = 0
 after (x ∷ xs) a = cond (eqb a x) (first xs) (after xs a)
@@ -47,7 +47,7 @@ final-in r [] e = absurd (omega arith)
 final-in r (x ∷ []) e = let z : r ≡ x = omega arith in omega (arith, is-same r x z)
 final-in r (x ∷ y ∷ ys) e = let h = final-in r (y ∷ ys) e in omega arith
 
--- a queue whose first is its last, with every record once, has nothing else
+-- a queue whose first is its last, and which has each record once, has no other member
 pub alone : (r : ℕ) (xs : List ℕ) → first xs ≡ suc r → final xs ≡ suc r → count r xs ≤ 1 → xs ≡ r ∷ []
 unfolding first final
 alone r [] e f h = absurd (omega arith)
@@ -59,7 +59,7 @@ pub final-second : (x y : ℕ) (ys : List ℕ) → final (x ∷ y ∷ ys) ≡ fi
 unfolding final
 final-second x y ys = refl
 
--- WHO COMES BEHIND
+-- THE MEMBER AFTER ANOTHER
 pub after-nil : (a : ℕ) → after [] a ≡ 0
 unfolding after
 after-nil a = refl
@@ -72,7 +72,7 @@ pub after-past : (a x : ℕ) (xs : List ℕ) → a ≢ x → after (x ∷ xs) a 
 unfolding after
 after-past a x xs h = let e = ne-eqb a x h in rw e
 
--- whoever comes behind is after the first
+-- a member after another is not the first
 pub after-behind : (xs : List ℕ) (a b : ℕ) → after xs a ≡ suc b → 1 ≤ count b (rest xs)
 unfolding rest
 after-behind [] a b e = absurd (omega (arith, after-nil a))
@@ -81,7 +81,7 @@ after-behind (x ∷ xs) a b e =
     (λ z. first-in b xs (sym (after-here a x xs z) ∙ e))
     (λ n. let h = after-behind xs a b (sym (after-past a x xs n) ∙ e) in omega (arith, count-rest b xs))
 
--- and whoever has one behind is in the queue
+-- a member with another after it is in the queue
 pub after-in : (xs : List ℕ) (a b : ℕ) → after xs a ≡ suc b → 1 ≤ count a xs
 after-in [] a b e = absurd (omega (arith, after-nil a))
 after-in (x ∷ xs) a b e =
@@ -98,7 +98,7 @@ after-last a (x ∷ y ∷ ys) e h =
     (λ z. absurd (omega (arith, count-cons a x (y ∷ ys), is-same a x z, final-in a (y ∷ ys) e)))
     (λ n. after-past a x (y ∷ ys) n ∙ after-last a (y ∷ ys) e (omega (arith, count-cons a x (y ∷ ys), is-other a x n)))
 
--- at the end of a queue
+-- a member is added at the end of a queue
 pub after-snoc-last : (a m : ℕ) (xs : List ℕ) → final xs ≡ suc a → count a xs ≤ 1 → after (xs ++ (m ∷ [])) a ≡ suc m
 unfolding final first
 after-snoc-last a m [] e h = absurd (omega arith)

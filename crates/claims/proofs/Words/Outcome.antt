@@ -1,4 +1,4 @@
--- What a step of the table is to the queues: a move of them, or none.
+-- The effect of a step of the table on the queues: a move, or none.
 use mathlib.Core.Path.{_≡_, refl, ap, _∙_, sym}
 use mathlib.Core.Bool.{cond, Bool, true, false}
 use mathlib.Core.List.{List, [], _∷_, _++_}
@@ -23,7 +23,7 @@ use Rattle.claims.proofs.Queues.Remaining.{acts-real}
 use Rattle.claims.proofs.Words.View.{Words, words-in, Room, tail-to, next-to, status-to, place-to, ticket-to, grant-to, tail-stored, next-stored, status-stored, place-stored, ticket-stored, grant-stored, tail-room, next-room, status-room, place-room, ticket-room, grant-room}
 use Rattle.claims.proofs.Words.Represents.{Represents}
 
--- what a step shows of the queues: standings ungranted that begin or end, and an entry
+-- what a step shows of the queues: members that begin or end standing ungranted, and an entry
 unfoldable pub ends-shown : (domain : ℕ) → (members : List ℕ) → List Event
 ends-shown d [] = []
 ends-shown d (m ∷ ms) = moves.ends d m ∷ ends-shown d ms
@@ -43,7 +43,7 @@ row-shown i d x = standing-shown (x .standing) d ++ entry-shown (x .kind) i
 unfoldable pub shown : Step → List Event
 shown x = standing-shown (x .standing) (x .domain) ++ entry-shown (x .kind) (x .thread)
 
--- ENTRIES THAT ARE SHOWN: the sum over events of a number that only entries have
+-- THE ENTRIES SHOWN: the sum over events of a number that only entries have
 unfoldable pub shown-sum : (Event → ℕ) → List Event → ℕ
 shown-sum f [] = 0
 shown-sum f (e ∷ es) = f e + shown-sum f es
@@ -81,7 +81,7 @@ module _ (f : Event → ℕ) (begin : (d m : ℕ) → f (moves.begins d m) ≡ 0
       by true = unfold shown-sum in omega arith
       by false = unfold shown-sum in omega arith
 
--- a row of thread i from a place at domain d: the queues after it, and the moves to them, which show what the row shows. Where the tree has two domains, the records that they make first are those that the row gives
+-- a row of thread i from a place at domain d: the queues after it, and the moves to them, which show what the row shows. If the tree has two domains, the records that they make first are those that the row gives
 pub record Outcome (t : Tree) (g : State) (i d : ℕ) (p : Place) (x : Row-result) : Type 0 where
   pub state : State
   pub room : Room (x .state)
@@ -90,7 +90,7 @@ pub record Outcome (t : Tree) (g : State) (i d : ℕ) (p : Place) (x : Row-resul
   pub shows : change-shown t change ≡ row-shown i d x
   pub gives : 1 < t .domains → change-firsts t change ≡ given t (step-from t i p x)
 
--- stores within the room, as changes of the words
+-- stores within the arrays, as changes of the words
 pub record Stored (s : WordState) (w : Words) : Type 0 where
   pub same : words-in s ≡ w
   pub room : Room s
@@ -150,7 +150,7 @@ module _ (s : WordState) (room : Room s) (i : ℕ) (h : i < 256) (p : Place) whe
   pub grant-placed : (n : ℕ) → Stored (with-place i p (with-grant n s)) (place-to i p (grant-to n (words-in s)))
   grant-placed n = then-place _ _ (then-grant s _ start n) i p h
 
--- a member in a queue is a record
+-- a member in a queue has a record
 pub member-small : (t : Tree) → Accepted t → (g : State) → Inv t g → (d m : ℕ) → 1 ≤ count m (g .queue d) → m < 320
 member-small t valid g inv d m b =
     let a = inv .acted d m b in

@@ -1,4 +1,4 @@
--- The row of a ticket lock at the root by which a thread lets go of it: Raise.
+-- The row with which a thread releases a ticket lock at the root: Raise.
 use mathlib.Core.Path.{_≡_, refl, sym, ap, _∙_}
 use mathlib.Core.Bool.{Bool, true, false, _&&_, false≢true}
 use mathlib.Core.List.{List, [], _∷_}
@@ -82,20 +82,20 @@ module _ (t : Tree) (valid : Accepted t) (s : WordState) (room : Room s) (g : St
   head : first (g .queue L) ≡ suc R
   head = inv .threads i .heads k (omega (arith, low-i))
 
-  -- the row's place
+  -- the place after the row
   pub done-root : done-place t i 0 ≡ done-at t i k
   done-root = rw there at (done-place-at t valid i h k (omega arith))
 
   abbrev pub raised-words : Words
   raised-words = place-to i (done-at t i k) (grant-to raised w)
 
-  -- domains with a queue are others
+  -- domains with a queue are other domains
   kept-linked : (g′ : State) (q : List ℕ) → g′ .queue ≡ put (g .queue) L q → (d : ℕ) → is-ticket t d ≡ false → Linked raised-words (g′ .queue d) d
   kept-linked g′ q queues d nd =
       let other : d ≢ L = λ z. queue-lower t d nd ticket (z ∙ there) in
       rw (queues, put-other (g .queue) L q d other) (record { last = o .linked d nd .last; chain = o .linked d nd .chain })
 
-  -- WHO IS SHOWN: somebody after the first
+  -- WHAT IS SHOWN: a record after the first
   after-first : (x : ℕ) → is-watched t s x ≡ true → 1 ≤ count x (rest (g .queue 0))
   unfolding is-watched low acts words-in Says
   after-first x y =
@@ -118,7 +118,7 @@ module _ (t : Tree) (valid : Accepted t) (s : WordState) (room : Room s) (g : St
   abbrev is-shown : ℕ → Bool
   is-shown x = eqb (status s x) raised && is-watched t s x
 
-  -- NOBODY BEHIND
+  -- NOBODY AFTER THE FIRST
   abbrev pub empty-state : State
   empty-state = record { queue = put (g .queue) L []; stage = put (g .stage) i (down k); tally = g .tally }
 
@@ -158,7 +158,7 @@ module _ (t : Tree) (valid : Accepted t) (s : WordState) (room : Room s) (g : St
         rw (nobody-shown, done-root)
         (outcome _ empty-state (grant-placed s room i few (done-at t i k) raised) emptied (moved (let-go i k (root e refl) shape)) refl refl)
 
-  -- SOMEBODY BEHIND: the second becomes the first
+  -- A SECOND: it becomes the first
   module _ (r : ℕ) (ys : List ℕ) (shape : g .queue L ≡ R ∷ r ∷ ys) where
     behind : Second t g L r
     behind = second t g inv L R r ys shape
@@ -179,7 +179,7 @@ module _ (t : Tree) (valid : Accepted t) (s : WordState) (room : Room s) (g : St
     root-S : ancestor t S N ≡ 0
     root-S = behind .place ∙ there
 
-    -- it watches: a ticket lock has no queue places
+    -- it is in Watch, since a ticket root has no other place to wait
     record Watches : Type 0 where
       watching-there : place s S ≡ Watch
       at-top : N ≡ height t S
@@ -213,7 +213,7 @@ module _ (t : Tree) (valid : Accepted t) (s : WordState) (room : Room s) (g : St
     unfolding is-watched is-watch
     r-watched = any-found (t .threads) _ S (behind .real) (rw (S-watches .watching-there, eq-eqb (own-record t S 0) r S-record))
 
-    -- the others after it hold other tickets
+    -- the others after it have other tickets
     only-r : (x : ℕ) → x ≢ r → is-shown x ≡ true → _≡_ {A = ℕ} 0 1
     unfolding Tickets words-in
     only-r x n y =

@@ -1,4 +1,4 @@
--- Where a thread is that lets go of a queue, and Cas that succeeds.
+-- The place of a thread that releases a queue, and a successful Cas.
 use mathlib.Core.Path.{_≡_, refl, sym, ap, _∙_}
 use mathlib.Core.Bool.{Bool, true, false, cond}
 use mathlib.Core.List.{[], _∷_}
@@ -34,7 +34,7 @@ letting-go-acts h k = by (eqb k h) refl
     by true e = ap suc (sym (eqb-true k h e))
     by false e = refl
 
--- WHERE A THREAD IS ONCE A DOMAIN IS DONE
+-- THE PLACE AFTER A DOMAIN IS RELEASED
 abbrev pub done-at : Tree → (thread index : ℕ) → Place
 done-at t i zero = Idle
 done-at t i (suc k) = Help (ancestor t i k)
@@ -50,7 +50,7 @@ unfolding down
 done-fits t w g i zero l c = at-idle
 done-fits t w g i (suc k) l c = rw (← letting-go-lower (height t i) k l) (at-help k (omega arith) c)
 
--- a stage at which a record is first wherever it acts is no standing
+-- a thread whose record is first wherever it acts does not stand
 pub firm : {C : Type 0} (h n : ℕ) (x : Stage) → x ≡ queued n → low h x ≡ acts h x → C
 unfolding low acts
 firm h n x e z = absurd (let y : low h (queued n) ≡ acts h (queued n) = rw e at z in omega arith)
@@ -69,7 +69,7 @@ module _ (t : Tree) (valid : Accepted t) (w : Words) (g : State) (i : ℕ) (h : 
   head : first (g .queue L) ≡ suc R
   head = inv .threads i .heads k first-there
 
-  -- CAS: nobody behind
+  -- CAS: nobody is after it
   pub lone : w .tails L ≡ R + 1 → g .queue L ≡ R ∷ []
   lone e =
       alone R (g .queue L) head (sym (o .linked L nt .last) ∙ e ∙ (let z : R + 1 ≡ suc R = omega arith in z)) (inv .once L R)

@@ -1,4 +1,4 @@
--- When the words of a state stand for queues, stages and counts; and what leaves a thread's part of that alone.
+-- When the words of a state represent queues, stages and counts; and which changes leave a thread's part of this intact.
 use mathlib.Core.Path.{_≡_, refl, sym, ap, _∙_}
 use mathlib.Core.Bool.{Bool, true, false, cond}
 use mathlib.Core.List.{List, [], _∷_}
@@ -23,12 +23,12 @@ use Rattle.claims.proofs.Words.View.{Words}
 abbrev pub waiting-word : (domain : ℕ) → ℕ
 waiting-word l = root-word l locked wait-word
 
--- an MCS queue in words: the tail is the last member; a next that is not none names the member behind
+-- an MCS queue in words: the tail is the last member; a next that is not none names the member after it
 pub record Linked (w : Words) (q : List ℕ) (d : ℕ) : Type 0 where
   pub last : w .tails d ≡ final q
   pub chain : (a : ℕ) → 1 ≤ count a q → w .nexts a ≢ 0 → w .nexts a ≡ after q a
 
--- a ticket lock in words: the members hold consecutive tickets from the grant on, and the ticket counter is the one after the last
+-- a ticket lock in words: the members hold consecutive tickets from the grant on, and the ticket counter is one after the last
 unfoldable pub Tickets : (statuses : ℕ → ℕ) → (from behind : ℕ) → List ℕ → Type 0
 Tickets f v b [] = b ≡ v
 Tickets f v b (m ∷ ms) = (f m ≡ v) × Tickets f (wrap (v + 1)) b ms
@@ -41,7 +41,7 @@ pub record Numbered (w : Words) (q : List ℕ) : Type 0 where
 abbrev pub Counted : Tree → Words → State → (thread index : ℕ) → Type 0
 Counted t w g i n = (m : ℕ) → m < n → m < height t i → w .statuses (record-at t i m) ≡ g .tally (record-at t i m)
 
--- the stage of a thread that lets go of its domain at an index last: of all at the root, else of those from there down
+-- the stage of a thread that lets go of the domain at an index, after those above: holding at the root, releasing below it
 unfoldable pub letting-go : (height index : ℕ) → Stage
 letting-go h k = cond (eqb k h) holding (releasing k)
 
@@ -61,7 +61,7 @@ letting-go-low h k = by (eqb k h) refl
     by true e = ap suc (sym (eqb-true k h e))
     by false e = refl
 
--- what a thread's place says of the queues and the words, with the stage that it is. In Link the record before has no next yet, in Wait it names the own
+-- what a thread's place implies about the queues and the words, given its stage. In Link the record before has no next yet; in Wait its next is the thread's own record
 pub data Fits (t : Tree) (w : Words) (g : State) (i : ℕ) : Place → Stage → Type 0 where
   at-idle : Fits t w g i Idle out
   at-prep : (k : ℕ) → k ≤ height t i → Counted t w g i k → Fits t w g i (Prep (ancestor t i k)) (climb k)
@@ -74,7 +74,7 @@ pub data Fits (t : Tree) (w : Words) (g : State) (i : ℕ) : Place → Stage →
   at-wait :
       (k p : ℕ) → k ≤ height t i → Counted t w g i k → is-ticket t (ancestor t i k) ≡ false → after (g .queue (ancestor t i k)) p ≡ suc (record-at t i k) →
       w .nexts p ≡ suc (record-at t i k) → w .statuses (record-at t i k) ≡ waiting-word (ancestor t i k) → Fits t w g i (Wait (ancestor t i k)) (queued k)
-  -- granted, and to acquire the parent
+  -- granted the domain only, so the parent is next
   at-woken :
       (k : ℕ) → k < height t i → Counted t w g i k → w .statuses (record-at t i k) ≡ acquire-parent → g .tally (record-at t i k) ≡ 1 →
       Fits t w g i (Wait (ancestor t i k)) (climb (suc k))
@@ -90,7 +90,7 @@ pub data Fits (t : Tree) (w : Words) (g : State) (i : ℕ) : Place → Stage →
       v ≤ t .threshold (ancestor t i k) → Fits t w g i (Grant (ancestor t i k) r v) holding
   at-help : (k : ℕ) → k ≤ height t i → Counted t w g i (suc k) → Fits t w g i (Help (ancestor t i k)) (letting-go (height t i) k)
   at-cas : (k : ℕ) → k ≤ height t i → Counted t w g i (suc k) → Fits t w g i (Cas (ancestor t i k)) (letting-go (height t i) k)
-  -- the own record is not the last there
+  -- the thread's own record is not the last there
   at-linger :
       (k : ℕ) → k ≤ height t i → Counted t w g i (suc k) → w .tails (ancestor t i k) ≢ suc (record-at t i k) →
       Fits t w g i (Linger (ancestor t i k)) (letting-go (height t i) k)
@@ -109,7 +109,7 @@ pub record Represents (t : Tree) (w : Words) (g : State) : Type 0 where
   pub numbered : t .ticket-root ≡ true → Numbered w (g .queue 0)
   pub fits : (i : ℕ) → i < t .threads → Fits t w g i (w .places i) (g .stage i)
 
--- WHAT LEAVES A THREAD ALONE
+-- CHANGES THAT DO NOT AFFECT A THREAD
 pub record Apart (t : Tree) (w : Words) (g : State) (w′ : Words) (g′ : State) (j : ℕ) : Type 0 where
   pub same-place : w′ .places j ≡ w .places j
   pub same-stage : g′ .stage j ≡ g .stage j
@@ -127,7 +127,6 @@ module _ {t : Tree} {w : Words} {g : State} {w′ : Words} {g′ : State} {j : �
   counted-kept : (n : ℕ) → n ≤ low (height t j) (g .stage j) → Counted t w g j n → Counted t w′ g′ j n
   counted-kept n b c m h l = a .same-status m (omega arith) ∙ c m h l ∙ sym (a .same-tally m (omega arith))
 
-  -- low of the stage, by its equation
   stage-low : (x : Stage) → g .stage j ≡ x → low (height t j) (g .stage j) ≡ low (height t j) x
   stage-low x e = ap (low (height t j)) e
 

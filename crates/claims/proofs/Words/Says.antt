@@ -1,4 +1,4 @@
--- What a thread's place says of its stage and of the words, for each place by itself; and what it is at, from its stage.
+-- What a thread's place implies about its stage and the words, place by place; and its place, given its stage.
 use mathlib.Core.Path.{_≡_, refl, ap}
 use mathlib.Core.Bool.{true, false}
 use mathlib.Core.Logic.{_⊎_, inl, inr}
@@ -17,7 +17,7 @@ use Rattle.claims.proofs.Words.View.{Words}
 use Rattle.claims.proofs.Words.Represents.{waiting-word, Counted, letting-go, Fits, at-idle, at-prep, at-swap, at-link, at-wait, at-woken, at-ready, at-inside, at-check, at-pass, at-help, at-cas, at-linger, at-grant, at-draw, at-watch, at-shown, at-raise}
 use lib.Dec.{eqb}
 
--- in Wait: ungranted, granted the domain alone, or granted the lock
+-- in Wait: ungranted, granted only the domain, or granted the lock
 pub data Waiting (t : Tree) (w : Words) (g : State) (i k : ℕ) (x : Stage) : Type 0 where
   stands : x ≡ queued k → w .statuses (record-at t i k) ≡ waiting-word (ancestor t i k) → Waiting t w g i k x
   woken : k < height t i → x ≡ climb (suc k) → w .statuses (record-at t i k) ≡ acquire-parent → Waiting t w g i k x
@@ -72,12 +72,12 @@ fits-says (at-watch k l r c) = (inl (ap queued l), r)
 fits-says (at-shown r c) = (inr refl, r)
 fits-says (at-raise r c) = refl
 
--- at a place that is known
+-- at a known place
 pub says-at : {t : Tree} {w : Words} {g : State} {i : ℕ} {p q : Place} {x : Stage} → p ≡ q → Fits t w g i p x → Says t w g i q x
 says-at {t} {w} {g} {i} {x = x} e f = rw e at (let y : Says t w g i _ x = fits-says f in y)
 
--- WHAT A STAGE SAYS of its thread's place
--- a thread that stands ungranted is in Link or in Wait, or watches at a ticket root
+-- WHAT A STAGE IMPLIES about its thread's place
+-- a thread that stands ungranted is in Link or Wait, or in Watch at a ticket root
 pub data Ungranted (t : Tree) (w : Words) (g : State) (s n : ℕ) (p : Place) : Type 0 where
   linking :
       (q : ℕ) → p ≡ Link (ancestor t s n) q → is-ticket t (ancestor t s n) ≡ false → after (g .queue (ancestor t s n)) q ≡ suc (record-at t s n) → w .nexts q ≡ 0 →
@@ -94,7 +94,7 @@ pub data Ready-place (t : Tree) (w : Words) (g : State) (i : ℕ) (p : Place) : 
       (k < height t i → w .statuses (record-at t i k) ≡ g .tally (record-at t i k)) → Ready-place t w g i p
   in-watch : p ≡ Watch → t .ticket-root ≡ true → Ready-place t w g i p
 
--- a thread on its way up acquires the domain at an index, or was granted the one below alone
+-- a thread that is acquiring acquires the domain at an index, or was granted only the one below
 pub data Climbs-at (t : Tree) (w : Words) (i j : ℕ) (p : Place) : Type 0 where
   preparing : j ≤ height t i → p ≡ Prep (ancestor t i j) → Climbs-at t w i j p
   swapping : j ≤ height t i → p ≡ Swap (ancestor t i j) → Climbs-at t w i j p

@@ -1,4 +1,4 @@
--- Every step of the table, from a state that represents queues, is a move of the queues or none, which shows what the step shows and makes first the records that it gives.
+-- Every step of the table from a state that represents queues is a move of the queues or none; the move shows what the step shows and makes first the records that the step gives.
 use mathlib.Core.Path.{_≡_, refl, sym, ap, _∙_}
 use mathlib.Core.Bool.{Bool, true, false, cond}
 use Prim.Native.Nat.{ℕ, _<_}
@@ -30,7 +30,7 @@ use Rattle.claims.proofs.Words.Drawing.{draw-outcome, watch-outcome, sh
 use Rattle.claims.proofs.Words.Raising.{raise-outcome}
 use Rattle.claims.proofs.Words.Leaving.{leave-outcome, check-outcome, help-outcome, cas-outcome, linger-outcome, grant-outcome, pass-outcome}
 
--- where there are two domains no thread's home is the root
+-- if the tree has two domains, no thread's home is the root
 home-lower : (t : Tree) → Accepted t → 1 < t .domains → (i : ℕ) → i < t .threads → t .home i ≡ 0 → ⊥
 home-lower t valid two i h z =
     let leaf : is-leaf t 0 ≡ true = ap (is-leaf t) (sym z) ∙ valid .home-leaf i h in
@@ -42,7 +42,7 @@ module _ (t : Tree) (valid : Accepted t) (bits : Sixteen-bit t) (s : WordState) 
   abbrev o : Others t (words-in s) g i
   o = others-of rep i
 
-  -- IDLE: the thread starts, and draws or does Prep at home
+  -- IDLE: the thread starts, and does what Draw does, or what Prep does at home
   begin :
       (e : g .stage i ≡ out) {d : ℕ} {p : Place} (x : Row-result) → Outcome t (started-by g i) i d p x →
       (1 < t .domains → given t (step-from t i p x) ≡ given t (step-from t i Idle x)) → Outcome t g i d Idle x
@@ -63,7 +63,7 @@ module _ (t : Tree) (valid : Accepted t) (bits : Sixteen-bit t) (s : WordState) 
       (prep-outcome t valid s room (started-by g i) i h (started t valid s room g i h o e) 0 (omega arith)
       (put-same (g .stage) i (climb 0) i refl) (λ m b q. absurd (omega arith))) (λ two. refl)
 
-  -- a queue place is not at a ticket root
+  -- a place in a queue is not at a ticket root
   queue-there : (k : ℕ) → queue-on-path t i (ancestor t i k) ≡ true → is-ticket t (ancestor t i k) ≡ false
   queue-there k q = queue-facts t i (ancestor t i k) q .1
 

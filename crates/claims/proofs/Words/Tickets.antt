@@ -1,4 +1,4 @@
--- Tickets along a queue: who holds which, and that a queue of members is shorter than the counters count.
+-- Tickets along a queue: who has which, and that a queue is shorter than the range of the counters.
 use mathlib.Core.Path.{_≡_, refl, sym, ap, _∙_}
 use mathlib.Core.List.{List, [], _∷_, _++_}
 use mathlib.Core.Logic.{_≢_}
@@ -10,7 +10,7 @@ use Rattle.model.proofs.Lists.{same-or, first, rest, is-same, is-other, count, 
 use Rattle.model.proofs.Laws.Form.{wrap-fits}
 use Rattle.claims.proofs.Words.Represents.{Tickets}
 
--- HOW LONG A QUEUE IS. How often the numbers below n are in a list, all together
+-- THE LENGTH OF A QUEUE. How often all numbers below n occur in a list, together
 unfoldable pub total : (n : ℕ) → List ℕ → ℕ
 total zero q = 0
 total (suc n) q = total n q + count n q
@@ -44,7 +44,7 @@ unfolding total
 total-once zero q h = omega arith
 total-once (suc n) q h = omega (arith, total-once n q h, h n)
 
--- a list of numbers below n, none twice, has at most n
+-- a list of numbers below n, none twice, has at most n elements
 pub list-short : (n : ℕ) (q : List ℕ) → ((a : ℕ) → 1 ≤ count a q → a < n) → ((a : ℕ) → count a q ≤ 1) → length q ≤ n
 list-short n q h o = omega (arith, total-length n q h, total-once n q o)
 
@@ -56,11 +56,11 @@ length-none (x ∷ q) e = absurd (omega arith)
 next-wrap : (v k : ℕ) → wrap (wrap (v + 1) + k) ≡ wrap (v + suc k)
 next-wrap v k = omega arith
 
--- another number comes back only after 65,536
+-- a counter returns to a number only after 65,536 increments
 pub wrap-other : (v k : ℕ) → v < 65536 → 0 < k → k < 65536 → wrap (v + k) ≢ v
 wrap-other v k a b c e = omega arith
 
--- WHO HOLDS WHICH
+-- WHO HOLDS WHICH TICKET
 pub tickets-snoc : (f : ℕ → ℕ) (v b m : ℕ) (q : List ℕ) → f m ≡ b → Tickets f v b q → Tickets f v (wrap (b + 1)) (q ++ (m ∷ []))
 unfolding Tickets
 tickets-snoc f v b m [] e h = (e ∙ h, ap (λ n. wrap (n + 1)) h)
@@ -71,7 +71,7 @@ unfolding Tickets
 tickets-after f v b [] s h = omega (arith, h)
 tickets-after f v b (x ∷ xs) s h = tickets-after f _ b xs (wrap-fits (v + 1)) (h .1) ∙ next-wrap v (length xs)
 
--- a member holds a ticket as many after the first as it stands after it
+-- a member's ticket is as far after the grant as the member is after the first
 pub record Held (f : ℕ → ℕ) (v a : ℕ) (q : List ℕ) : Type 0 where
   pub behind : ℕ
   pub within : behind < length q
@@ -92,7 +92,7 @@ unfolding Tickets
 tickets-first f v b a [] h e = absurd (omega (arith, first-nil))
 tickets-first f v b a (x ∷ xs) h e = let z : a ≡ x = omega (arith, first-cons x xs) in ap f z ∙ h .0
 
--- whoever is after the first holds another ticket than the one shown
+-- a member after the first has another ticket than the one that is shown
 pub tickets-rest : (f : ℕ → ℕ) (v b a : ℕ) (q : List ℕ) → v < 65536 → length q ≤ 320 → Tickets f v b q → 1 ≤ count a (rest q) → f a ≢ v
 unfolding Tickets
 tickets-rest f v b a [] s l h c = absurd (omega (arith, ap (count a) rest-nil, count-nil a))

@@ -1,4 +1,4 @@
--- The words of a state as functions, and what a store does to them.
+-- The words of a state as functions, and the effect of a store on them.
 use mathlib.Core.Path.{_≡_, refl, sym, ap, _∙_, fun-ext}
 use mathlib.Core.List.{List}
 use Prim.Native.Nat.{ℕ, _<_}
@@ -24,21 +24,21 @@ pub record Words : Type 0 where
 unfoldable pub words-in : State → Words
 words-in s = record { tails = λ d. tail s d; nexts = λ r. next s r; statuses = λ r. status s r; places = λ i. place s i; ticket = s .ticket; grant = s .grant }
 
--- the room of the arrays
+-- the lengths of the arrays
 pub record Room (s : State) : Type 0 where
   pub tails-room : length (s .tails) ≡ 64
   pub nexts-room : length (s .nexts) ≡ 320
   pub statuses-room : length (s .statuses) ≡ 320
   pub places-room : Places-room (s .places)
 
--- a store to a list is a change at one place
+-- a store to a list changes one element
 stored-at : {A : Type 0} (xs : List A) (k : ℕ) (v d : A) → k < length xs → (j : ℕ) → getD (set xs k v) j d ≡ put (λ n. getD xs n d) k v j
 stored-at xs k v d h j =
     same-or j k _
     (λ z. rw z (getD-set-same xs k v d h ∙ sym (put-same (λ n. getD xs n d) k v k refl)))
     (λ z. getD-set-other xs k j v d z ∙ sym (put-other (λ n. getD xs n d) k v j z))
 
--- the words with one changed
+-- the words with one of them changed
 abbrev pub tail-to : (domain value : ℕ) → Words → Words
 tail-to d v w = record { tails = put (w .tails) d v; nexts = w .nexts; statuses = w .statuses; places = w .places; ticket = w .ticket; grant = w .grant }
 
@@ -57,7 +57,7 @@ ticket-to v w = record { tails = w .tails; nexts = w .nexts; statuses = w .statu
 abbrev pub grant-to : (value : ℕ) → Words → Words
 grant-to v w = record { tails = w .tails; nexts = w .nexts; statuses = w .statuses; places = w .places; ticket = w .ticket; grant = v }
 
--- the stores to arrays, each within the room
+-- the stores to arrays, each within the array
 module _ (s : State) (room : Room s) where
   pub tail-stored : (d v : ℕ) → d < 64 → words-in (with-tail d v s) ≡ tail-to d v (words-in s)
   unfolding words-in

@@ -1,4 +1,4 @@
--- The moves of a step keep what holds of a domain's tenures.
+-- The moves of a step keep what holds for a domain's tenures.
 use mathlib.Core.Path.{_≡_, refl, sym, ap, _∙_}
 use mathlib.Core.Bool.{true, cond}
 use mathlib.Core.List.{List, [], _∷_}
@@ -22,7 +22,7 @@ use Rattle.claims.proofs.tenures.LeafTenures.{entered-by, Leaf, runner-
 use Rattle.claims.proofs.tenures.LeafMoves.{leaf-move}
 
 module _ (T : Tree) (valid : Accepted T) (d : ℕ) where
-  -- where the tenure runs, one has started
+  -- if a tenure runs, one has started
   pub started-along :
       {st st′ : State} (c : Changed T st st′) → Inv T st → (n : ℕ) → (first (st .queue (P T valid d)) ≡ suc (R T valid d) → 1 ≤ n) →
       first (st′ .queue (P T valid d)) ≡ suc (R T valid d) → 1 ≤ n + count (R T valid d) (change-firsts T c)
@@ -36,7 +36,7 @@ module _ (T : Tree) (valid : Accepted T) (d : ℕ) (pos : 0 < d) (leaf : is-leaf
   abbrev pub entered-in : List Event → ℕ
   entered-in es = shown-sum (entered-by T valid d pos leaf) es
 
-  -- a pass at the leaf that the events show gives no count above the longest
+  -- a pass at the leaf that the events show gives a count of at most the longest
   abbrev pub Passes : State → List Event → (longest : ℕ) → Type 0
   Passes st es l = (m : ℕ) → es ≡ moves.ends d m ∷ [] → (k : ℕ) → st .stage k ≡ holding → T .home k ≡ d → suc (st .tally k) ≤ l
 
@@ -76,7 +76,7 @@ module _ (T : Tree) (valid : Accepted T) (d : ℕ) (pos : 0 < d) (leaf : is-leaf
       wider a v zero one q = absurd (omega arith)
       wider a v (suc n) one q = let c = mul-le-mul-left {m = l} {n = l′} n b in omega arith
 
-  -- what a row's events show of entries
+  -- the entries that a row's events show
   pub entered-shown : (i c : ℕ) (x : Row-result) → entered-in (row-shown i c x) ≡ cond (is-entry (x .kind)) (cond (under T (256 + d) i) 1 0) 0
   unfolding entered-by
   entered-shown i c x = rw (under-domain T d i) (row-sum (entered-by T valid d pos leaf) (λ e m. refl) (λ e m. refl) i c x)

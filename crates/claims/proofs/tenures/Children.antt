@@ -1,4 +1,4 @@
--- A domain's entries are the sum of its children's: a thread under a domain with children is under exactly one of them.
+-- A domain's entries are the sum of its children's entries: a thread under a domain with children is under exactly one of them.
 use mathlib.Core.Path.{_≡_, refl, sym, ap, _∙_}
 use mathlib.Core.Bool.{Bool, true, false, cond, true≢false}
 use mathlib.Core.List.{List, [], _∷_}
@@ -34,7 +34,7 @@ module _ (t : Tree) (valid : Accepted t) (i : ℕ) (h : i < t .threads) (d : ℕ
   not-home : d ≢ t .home i
   not-home e = true≢false (sym (valid .home-leaf i h) ∙ ap (is-leaf t) (sym e) ∙ inner)
 
-  -- no child of a domain off the path is on it
+  -- if a domain is not on the path, neither are its children
   off : on-path t i d ≡ false → (c : ℕ) → c < t .domains → cond (is-child t d c) (one-if (on-path t i c)) 0 ≡ 0
   off e c b = by (is-child t d c) (on-path t i c) refl refl
     where
@@ -45,7 +45,7 @@ module _ (t : Tree) (valid : Accepted t) (i : ℕ) (h : i < t .threads) (d : ℕ
           let f = child-facts t d c p in
           absurd (true≢false (sym (on-path-parent t valid i h c (f .no-root) q) ∙ ap (on-path t i) (f .hangs) ∙ e))
 
-  -- of a domain on the path exactly one child is on it
+  -- exactly one child of a domain on the path is on the path
   on : (k : ℕ) → k ≤ height t i → ancestor t i k ≡ d → children-sum t d (λ c. one-if (on-path t i c)) ≡ 1
   unfolding children-sum
   on zero l e = absurd (not-home (sym e ∙ ancestor-home t i))
@@ -75,13 +75,13 @@ module _ (t : Tree) (valid : Accepted t) (i : ℕ) (h : i < t .threads) (d : ℕ
       by true e = let o = path-index t valid i h d e in sym (on (o .index) (o .within) (o .there))
       by false e = sym (sum-zero (t .domains) _ (off e))
 
--- A LIST OF STEPS. Every step is a thread's of the tree
+-- A LIST OF STEPS. Every step is one of a thread of the tree
 real-steps : (t : Tree) (is : List ℕ) (s : State) → All-threads t is → All-real t (steps t is s)
 unfolding All-real All-threads steps step
 real-steps t [] s all = tt
 real-steps t (i ∷ is) s all = (all .0, real-steps t is (step t i s .state) (all .1))
 
--- what one step adds to the entries of each child, where it adds anything
+-- what one step adds to the entries of each child
 abbrev counted : Tree → Step → ℕ → ℕ
 counted t x d = cond (is-entry (x .kind)) (one-if (on-path t (x .thread) d)) 0
 
@@ -91,7 +91,7 @@ unfolding children-sum
 one-step t d x true e = e
 one-step t d x false e = sum-zero (t .domains) _ (λ c h. either-none (is-child t d c))
 
--- entries of a domain, by paths
+-- the entries of a domain, by paths
 path-entries : Tree → (d : ℕ) → List Step → ℕ
 path-entries t d [] = 0
 path-entries t d (x ∷ xs) = counted t x d + path-entries t d xs

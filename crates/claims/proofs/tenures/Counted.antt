@@ -1,4 +1,4 @@
--- The counters in a lock's state are what the steps of a list's schedule tell.
+-- The counters of a lock state are what the steps of a list's schedule give.
 use mathlib.Core.Path.{_≡_, refl, sym, ap, _∙_}
 use mathlib.Core.Bool.{cond}
 use mathlib.Core.List.{List, []}
@@ -26,7 +26,7 @@ use Rattle.claims.proofs.Sums.{sum-same}
 use Rattle.claims.proofs.tenures.Children.{children-law}
 use Rattle.claims.proofs.tenures.Law.{tenure-law}
 
--- after steps from fresh counters
+-- the counters after steps from fresh counters
 counters-from-fresh : (t : Tree) (xs : List Step) → Counters-hold t xs (counters-after t fresh-counters xs)
 unfolding Counter-law fresh-counters
 counters-from-fresh t xs =

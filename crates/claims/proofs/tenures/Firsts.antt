@@ -1,4 +1,4 @@
--- A domain's tenure runs while its record is the first above it: what moves make it first, and that they tell so.
+-- A domain's tenure runs while its record is the first above it: which moves make it first, and that they report it.
 use mathlib.Core.Path.{_≡_, sym, ap, _∙_}
 use mathlib.Core.List.{List, [], _∷_, _++_}
 use mathlib.Core.Logic.{_≢_}
@@ -16,7 +16,7 @@ use Rattle.claims.proofs.Queues.Changes.{made-first}
 use Rattle.claims.proofs.Queues.Invariant.{Thread, Inv}
 use Rattle.claims.proofs.Queues.Remaining.{acts-real}
 
--- the first of a queue, where one queue is written
+-- the first of a queue if one queue is replaced
 put-first :
     (Q : ℕ → List ℕ) (L : ℕ) (q : List ℕ) (D : ℕ) (C : Type 0) → (D ≡ L → first (put Q L q D) ≡ first q → C) → (D ≢ L → first (put Q L q D) ≡ first (Q D) → C) → C
 put-first Q L q D C f g = same-or D L C (λ z. f z (ap first (put-same Q L q D z))) (λ z. g z (ap first (put-other Q L q D z)))
@@ -48,7 +48,7 @@ module _ (T : Tree) (valid : Accepted T) (d : ℕ) where
     unfolding acts
     standing s l e = let f = acts-real T (laws T valid) st inv s l (rw e (omega arith)) in (f .0, f .2)
 
-    -- WHAT A MOVE DOES TO THE TENURE: it starts one, where none ran and the record is now the first; or it starts none
+    -- THE EFFECT OF A MOVE ON THE TENURE: it starts one, if none ran and the record is first now; or it starts none
     data Effect (Q : ℕ → List ℕ) (made : List ℕ) : Type 0 where
       starts-one : 1 ≤ count R made → first (st .queue P) ≢ suc R → first (Q P) ≡ suc R → Effect Q made
       starts-none : count R made ≡ 0 → (first (Q P) ≡ suc R → first (st .queue P) ≡ suc R) → Effect Q made
@@ -98,14 +98,14 @@ module _ (T : Tree) (valid : Accepted T) (d : ℕ) where
     effect (let-go i j b shape) =
         starts-none (count-nil R) (λ f. put-first (st .queue) (ancestor T i j) [] P _ (λ y g. absurd (omega (arith, first-nil))) (λ y g. sym g ∙ f))
 
-    -- while the tenure runs no move starts one
+    -- while a tenure runs, no move starts one
     pub no-start : {e : Event} {st′ : State} (mv : Move T st e st′) → first (st .queue P) ≡ suc R → count R (made-first T mv) ≡ 0
     no-start mv f = elim (effect mv) [ starts-one c n g ↦ absurd (n f) | starts-none z g ↦ z ]
 
-    -- a move that starts one makes the record the first
+    -- a move that starts one makes the record first
     pub made-is-first : {e : Event} {st′ : State} (mv : Move T st e st′) → 1 ≤ count R (made-first T mv) → first (st′ .queue P) ≡ suc R
     made-is-first mv c = elim (effect mv) [ starts-one c n g ↦ g | starts-none z g ↦ absurd (omega arith) ]
 
-    -- how many tenures have started, where it runs
+    -- if a tenure runs, at least one has started
     pub some-started : {e : Event} {st′ : State} (mv : Move T st e st′) (n : ℕ) → (first (st .queue P) ≡ suc R → 1 ≤ n) → first (st′ .queue P) ≡ suc R → 1 ≤ n + count R (made-first T mv)
     some-started mv n before f = elim (effect mv) [ starts-one c m g ↦ omega arith | starts-none z g ↦ omega (arith, before (g f)) ]

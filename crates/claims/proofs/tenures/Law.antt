@@ -1,4 +1,4 @@
--- TENURES: from fresh, what holds of each domain's entries, tenures and longest tenure.
+-- TENURES: from fresh, what holds for each domain's entries, tenures and longest tenure.
 use mathlib.Core.Path.{_≡_, refl}
 use mathlib.Core.Bool.{true, cond}
 use mathlib.Core.List.{List, [], _∷_}
@@ -42,7 +42,7 @@ max-assoc a b c =
     le-antisymm (max-le (max-le first (omega arith)) (omega arith)) (max-le (omega arith) (max-le (omega arith) last))
 
 module _ (t : Tree) (valid : Accepted t) (bits : Sixteen-bit t) (d : ℕ) (pos : 0 < d) (real : d < t .domains) where
-  -- FRESH: every thread is Idle, so out, and no queue has a first
+  -- FRESH: every thread is Idle, so its stage is out, and every queue is empty
   module _ (v : ℕ) where
     abbrev g : State
     g = fresh-queued t v .queues
@@ -92,7 +92,7 @@ module _ (t : Tree) (valid : Accepted t) (bits : Sixteen-bit t) (d : ℕ) (pos :
   abbrev entry-of : Step → ℕ
   entry-of x = cond (is-entry (x .kind)) (cond (under t (256 + d) (x .thread)) 1 0) 0
 
-  -- steps from a state, and one before them
+  -- steps from a state, and one more before them
   abbrev After : (s : WordState) (n e l : ℕ) → List Step → Type 0
   After s n e l xs = Tracked t valid bits d pos real (state-after s xs) (n + domain-tenures t d xs) (e + entries-under t (256 + d) xs) (max l (longest-tenure t d xs))
 
@@ -113,7 +113,7 @@ module _ (t : Tree) (valid : Accepted t) (bits : Sixteen-bit t) (d : ℕ) (pos :
       (along is (all .1) (step t i s .state) (n + starts t d (step t i s)) (e + entry-of (step t i s)) (max l (tenure-length t d (step t i s)))
       (step-tracked t valid bits d pos real s n e l k i (all .0)))
 
-  -- WHAT IT SAYS of a leaf: while the tenure runs, a thread of the leaf is first above it
+  -- WHAT THIS IMPLIES for a leaf: while its tenure runs, a thread of the leaf is first above it
   record Runner (g : State) : Type 0 where
     thread : ℕ
     there : thread < t .threads

@@ -1,4 +1,4 @@
--- Every move keeps what holds of a leaf's entries and tenures.
+-- Every move keeps what holds for a leaf's entries and tenures.
 use mathlib.Core.Path.{_≡_, refl, sym, ap, _∙_}
 use mathlib.Core.Bool.{Bool, true, false, cond}
 use mathlib.Core.List.{List, [], _∷_, _++_}
@@ -44,7 +44,7 @@ module _ (T : Tree) (valid : Accepted T) (d : ℕ) (pos : 0 < d) (leaf : is-leaf
       let same : M ≡ record-at T i j = sym (ap (record-at T i) q ∙ home-record T valid d pos leaf i z) in
       omega (arith, count-cons M (record-at T i j) [], count-nil M, is-same M (record-at T i j) same)
 
-  -- an entry, of the leaf's threads or another's
+  -- an entry by a thread of the leaf, or by another
   entry-one : (i : ℕ) → i < T .threads → T .home i ≡ d → entered-by T valid d pos leaf (entered i) ≡ 1
   unfolding entered-by
   entry-one i h z = rw (home-on T valid d pos leaf i h z)
@@ -57,7 +57,7 @@ module _ (T : Tree) (valid : Accepted T) (d : ℕ) (pos : 0 < d) (leaf : is-leaf
       by true q = absurd (n (on-home T valid d pos leaf i h q))
       by false q = refl
 
-  -- whoever is inside after a move is above the leaf, so another entry leaves a leaf alone whose tenure does not run
+  -- a thread that is inside after a move is first above its leaf, so it is no thread of a leaf whose tenure does not run
   entry-quiet : {ev : Event} {st′ : State} (mv : Move T st ev st′) (i : ℕ) → i < T .threads → st′ .stage i ≡ inside → first (st′ .queue D) ≢ suc M →
       entered-by T valid d pos leaf (entered i) ≡ 0
   unfolding low
@@ -66,7 +66,7 @@ module _ (T : Tree) (valid : Accepted T) (d : ℕ) (pos : 0 < d) (leaf : is-leaf
       let tall = home-height T valid d pos leaf i h z in
       f (runner-first T valid d pos leaf st′ (keeps T (laws T valid) st inv mv) i h z (rw x (omega arith))))
 
-  -- another thread that is first in the leaf while one enters: there is none
+  -- while a thread of the leaf enters, no other thread is first in the leaf
   entry-alone : (i k : ℕ) → i < T .threads → T .home k ≡ d → k ≢ i → 0 < low (height T k) (st .stage k) → (T .home i ≡ d → 0 < low (height T i) (st .stage i)) →
       e + entered-by T valid d pos leaf (entered i) ≡ e
   entry-alone i k h zk z a b =
@@ -78,7 +78,7 @@ module _ (T : Tree) (valid : Accepted T) (d : ℕ) (pos : 0 < d) (leaf : is-leaf
   grows-over : (L m : ℕ) → first (st .queue D) ≡ suc M → first (put (st .queue) L (st .queue L ++ (m ∷ [])) D) ≢ suc M → (e ≤ n * l) × (n ≤ e)
   grows-over L m f g = absurd (g (grown-first (st .queue) L m D M f))
 
-  -- A MOVE THAT STARTS A TENURE has been told; and the count of a leaf's thread after it
+  -- A MOVE THAT STARTS A TENURE is reported; and the count of a leaf's thread after it
   abbrev Made-first : {ev : Event} {st′ : State} → Move T st ev st′ → Type 0
   Made-first mv = 1 ≤ count M (made-first T mv) → 1 ≤ l
 
@@ -131,7 +131,7 @@ module _ (T : Tree) (valid : Accepted T) (d : ℕ) (pos : 0 < d) (leaf : is-leaf
       (λ z. kept (put-other (st .stage) i (climb (suc j)) k z) (put-other (st .tally) (record-at T i j) 1 k (far T valid d pos leaf k i j hk (λ q. z))) (alone mv k hk zk refl)))
       (idle-after T valid d pos leaf st inv n e l old mv (grows-over (ancestor T i j) (record-at T i j)) (λ g. refl))
 
-  -- a leaf's thread does not join the root from below it
+  -- a leaf's thread joins the root at index 1 or higher
   joins-above : (i j : ℕ) → T .home i ≡ d → ancestor T i j ≡ 0 → 1 ≤ j
   joins-above i zero z r = absurd (omega (arith, ancestor-home T i))
   joins-above i (suc j) z r = omega arith
@@ -202,7 +202,7 @@ module _ (T : Tree) (valid : Accepted T) (d : ℕ) (pos : 0 < d) (leaf : is-leaf
     real-there : (i < T .threads) × (i < 256) × (j ≤ height T i)
     real-there = acts-real T (laws T valid) st inv i j (omega (arith, low-acts (height T i) (st .stage i)))
 
-    -- if it takes the leaf's record from above, the tenure is over
+    -- if it removes the leaf's record from the queue above, the tenure is over
     pops-over : (q : List ℕ) → first (st .queue D) ≡ suc M → first (put (st .queue) (ancestor T i j) q D) ≢ suc M → (e ≤ n * l) × (n ≤ e)
     pops-over q f g =
         same-or D (ancestor T i j) _
@@ -229,12 +229,12 @@ module _ (T : Tree) (valid : Accepted T) (d : ℕ) (pos : 0 < d) (leaf : is-leaf
         (λ z. kept (put-other (st .stage) i (down j) k z) refl (alone mv k hk zk refl)))
         (idle-after T valid d pos leaf st inv n e l old mv (pops-over []) (λ g. refl))
 
-    -- A HAND-OVER: the successor stands behind, and another count is written at its record
+    -- A HAND-OVER: the successor is next, and a new count is written to its record
     module _ (s m : ℕ) (waits : st .stage s ≡ queued m) where
       successor : (s < T .threads) × (m ≤ height T s)
       successor = standing T valid d st inv s m waits
 
-      -- the two who change, and the others
+      -- the two threads that change, and the others
       handed : {ev : Event} {st′ : State} (mv : Move T st ev st′) (x : Stage) (c : ℕ) → entered-by T valid d pos leaf ev ≡ 0 →
           st′ .stage ≡ put (put (st .stage) i (down j)) s x → st′ .tally ≡ put (st .tally) (record-at T s m) c →
           (T .home s ≡ d → Of mv s) → (k : ℕ) → k < T .threads → T .home k ≡ d → Of mv k
@@ -250,7 +250,7 @@ module _ (T : Tree) (valid : Accepted T) (d : ℕ) (pos : 0 < d) (leaf : is-leaf
           (λ y. lets-go mv q k hk zk y (stage-k ∙ put-other f s x k z ∙ put-same (st .stage) i (down j) k y) same)
           (λ y. kept (stage-k ∙ put-other f s x k z ∙ put-other (st .stage) i (down j) k y) same (alone mv k hk zk q)))
 
-      -- the successor where it stood above the leaf: a tenure starts, or goes on
+      -- if the successor stood above the leaf, a tenure starts or continues
       raised : {ev : Event} {st′ : State} (mv : Move T st ev st′) → Made-first mv → made-first T mv ≡ record-at T s m ∷ [] → entered-by T valid d pos leaf ev ≡ 0 → (c : ℕ) →
           st′ .tally ≡ put (st .tally) (record-at T s m) c → T .home s ≡ d → 1 ≤ m → Runs-on mv (st′ .tally s) 1
       unfolding low pending
@@ -260,7 +260,7 @@ module _ (T : Tree) (valid : Accepted T) (d : ℕ) (pos : 0 < d) (leaf : is-leaf
           (λ y. starts-run mv lengths _ 1 (same ∙ old .new s (successor .0) z (rw waits y) (rw waits refl)) (ap (count M) made ∙ made-one s z m y) (omega arith))
           (λ y. continues mv s (successor .0) z (rw waits (omega arith)) _ 1 same (rw waits (omega arith)))
 
-      -- at home, the count that is handed over
+      -- at home, the count is the one handed over
       tally-home : (c : ℕ) → m ≡ 0 → put (st .tally) (record-at T s m) c s ≡ c
       tally-home c y = put-same (st .tally) (record-at T s m) c s (sym (ap (record-at T s) y ∙ record-own T s))
 

@@ -1,4 +1,4 @@
--- A leaf's entries and tenures, as its queue tells them: what holds between moves.
+-- A leaf's entries and tenures, given by its queue: what holds between moves.
 use mathlib.Core.Path.{_≡_, refl, sym, ap, _∙_}
 use mathlib.Core.Bool.{true, cond}
 use mathlib.Core.Logic.{_≢_}
@@ -16,13 +16,13 @@ use Rattle.claims.proofs.Queues.Changes.{made-first}
 use Rattle.claims.proofs.Queues.Invariant.{Inv, one-head}
 use Rattle.claims.proofs.tenures.Firsts.{P, R, no-start, made-is-first}
 
--- what holds of the thread that is first in the leaf while its tenure runs: its count, its pending entry; tenures, entries and the longest so far
+-- what holds while a tenure runs, for the thread that is first in the leaf: its count and pending entry, and the tenures, entries and longest so far
 pub record Runs (v pend n e l : ℕ) : Type 0 where
   pub entries : e + pend + l ≤ n * l + v
   pub tenures : n ≤ e + pend
   pub long : v ≤ l
 
--- a tenure starts, and its first thread has yet to enter, or enters now
+-- a tenure starts, and its first thread enters now or later
 pub begins-run : (v pend n e n′ e′ l : ℕ) → v ≡ 1 → n′ ≡ suc n → e′ + pend ≡ e + 1 → (e ≤ n * l) × (n ≤ e) → 1 ≤ l → Runs v pend n′ e′ l
 begins-run v pend n e n′ e′ l zv zn ze both one =
     let a = both .0 in
@@ -32,7 +32,7 @@ begins-run v pend n e n′ e′ l zv zn ze both one =
     enough : e′ + pend + l ≤ suc n * l + 1
     enough = let a = both .0 in omega arith
 
--- it goes on
+-- the tenure continues
 pub goes-on : (v pend n e v′ pend′ n′ e′ l : ℕ) → Runs v pend n e l → v′ ≡ v → n′ ≡ n → e′ + pend′ ≡ e + pend → Runs v′ pend′ n′ e′ l
 goes-on v pend n e v′ pend′ n′ e′ l r zv zn ze =
     let a = r .entries in
@@ -46,7 +46,7 @@ hands-over v n e n′ e′ l r zn ze b =
     let c = r .tenures in
     rw (zn, ze) (record { entries = omega arith; tenures = omega arith; long = b })
 
--- it has ended
+-- the tenure has ended
 pub run-over : (v n e l : ℕ) → Runs v 0 n e l → (e ≤ n * l) × (n ≤ e)
 run-over v n e l r = let a = r .entries in let b = r .tenures in let c = r .long in (omega arith, omega arith)
 
@@ -86,7 +86,7 @@ module _ (T : Tree) (valid : Accepted T) (d : ℕ) (pos : 0 < d) (leaf : is-leaf
   pub home-on : (i : ℕ) → i < T .threads → T .home i ≡ d → on-path T i d ≡ true
   home-on i h z = rw z at (on-path-home T valid i h)
 
-  -- a thread's record, where another thread or a domain works
+  -- a thread's own record is neither another thread's nor a domain's
   pub far : (k i j : ℕ) → k < T .threads → (j ≡ 0 → k ≢ i) → k ≢ record-at T i j
   far k i zero h n q = n refl (q ∙ record-own T i)
   far k i (suc j) h n q = omega (arith, valid .few-threads, record-suc T i j)
@@ -98,13 +98,13 @@ module _ (T : Tree) (valid : Accepted T) (d : ℕ) (pos : 0 < d) (leaf : is-leaf
   entered-by (ends c m) = 0
   entered-by (entered i) = cond (on-path T i d) 1 0
 
-  -- BETWEEN MOVES: while no tenure runs, while one runs, and of a thread that is first in the leaf and stands or is about to stand above it
+  -- BETWEEN MOVES: while no tenure runs, while one runs, and for a thread that is first in the leaf and stands or is about to stand above it
   pub record Leaf (st : State) (n e l : ℕ) : Type 0 where
     pub idle : first (st .queue (P T valid d)) ≢ suc (R T valid d) → (e ≤ n * l) × (n ≤ e)
     pub runs : (i : ℕ) → i < T .threads → T .home i ≡ d → 1 < low (height T i) (st .stage i) → Runs (st .tally i) (pending (st .stage i)) n e l
     pub new : (i : ℕ) → i < T .threads → T .home i ≡ d → low (height T i) (st .stage i) ≡ 1 → pending (st .stage i) ≡ 1 → st .tally i ≡ 1
 
-  -- a pass at the leaf gives no count above the longest
+  -- a pass at the leaf gives a count of at most the longest
   abbrev pub Passing : State → Event → (longest : ℕ) → Type 0
   Passing st ev l = (m : ℕ) → ev ≡ ends d m → (k : ℕ) → st .stage k ≡ holding → T .home k ≡ d → suc (st .tally k) ≤ l
 
@@ -113,7 +113,7 @@ module _ (T : Tree) (valid : Accepted T) (d : ℕ) (pos : 0 < d) (leaf : is-leaf
       ap (λ x. first (st .queue x)) (sym (home-parent i h z)) ∙ inv .threads i .heads 1 b ∙ ap suc (home-record i z)
 
   module _ (st : State) (inv : Inv T st) (n e l : ℕ) (old : Leaf st n e l) where
-    -- one thread is first in the leaf
+    -- only one thread is first in the leaf
     pub one-thread : (k i : ℕ) → T .home k ≡ d → T .home i ≡ d → 0 < low (height T k) (st .stage k) → 0 < low (height T i) (st .stage i) → k ≡ i
     one-thread k i zk zi a b = one-head T (laws T valid) st inv k i 0 0 a b (ancestor-home T k ∙ zk ∙ sym zi ∙ sym (ancestor-home T i)) .0
 
@@ -124,7 +124,7 @@ module _ (T : Tree) (valid : Accepted T) (d : ℕ) (pos : 0 < d) (leaf : is-leaf
     pub not-running : {ev : Event} {st′ : State} (mv : Move T st ev st′) → 1 ≤ count (R T valid d) (made-first T mv) → (e ≤ n * l) × (n ≤ e)
     not-running mv c = old .idle (λ f. omega (arith, no-start T valid d st inv mv f))
 
-    -- a thread after a move: left alone, or changed
+    -- a thread after a move: unchanged or changed
     pub data Thread-after (st′ : State) (n′ e′ k : ℕ) : Type 0 where
       kept : st′ .stage k ≡ st .stage k → st′ .tally k ≡ st .tally k → (1 < low (height T k) (st .stage k) → (n′ ≡ n) × (e′ ≡ e)) → Thread-after st′ n′ e′ k
       changed :
@@ -152,7 +152,7 @@ module _ (T : Tree) (valid : Accepted T) (d : ℕ) (pos : 0 < d) (leaf : is-leaf
           new = λ k h z a b. after-new st′ n′ e′ k h z (f k h z) a b;
         }
 
-    -- while none runs after a move: none ran, or the move ended it
+    -- if no tenure runs after a move, none ran before it, or the move ended it
     pub idle-after :
         {ev : Event} {st′ : State} (mv : Move T st ev st′) →
         (first (st .queue (P T valid d)) ≡ suc (R T valid d) → first (st′ .queue (P T valid d)) ≢ suc (R T valid d) → (e ≤ n * l) × (n ≤ e)) →
@@ -164,7 +164,7 @@ module _ (T : Tree) (valid : Accepted T) (d : ℕ) (pos : 0 < d) (leaf : is-leaf
         let ze : e + entered-by ev ≡ e = omega (arith, quiet f) in
         rw (zn, ze) (same-or (first (st .queue (P T valid d))) (suc (R T valid d)) _ (λ z. over z f) (λ z. old .idle z))
 
-    -- the move takes the leaf's record from above it
+    -- the move removes the leaf's record from the queue above
     pub over-by :
         (i j : ℕ) → i < T .threads → j ≤ height T i → j < low (height T i) (st .stage i) → pending (st .stage i) ≡ 0 → P T valid d ≡ ancestor T i j →
         first (st .queue (P T valid d)) ≡ suc (R T valid d) → (e ≤ n * l) × (n ≤ e)

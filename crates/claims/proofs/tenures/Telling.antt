@@ -1,4 +1,4 @@
--- What a row tells of a domain: which word a thread may hold to grant there after it, that only a Grant there ends a standing there, and the length that a Check tells.
+-- What a row reports about a domain: which word a thread may have to grant there after it, that only a Grant there ends standing there, and the length that a Check reports.
 use mathlib.Core.Path.{_≡_, refl, sym, ap, _∙_}
 use mathlib.Core.Bool.{Bool, true, false, cond, false≢true}
 use mathlib.Core.List.{List, [], _∷_, _++_, nil≢cons, head-eq-of-cons-eq}
@@ -40,7 +40,7 @@ no-release true c l = refl
 no-release false true l = refl
 no-release false false l = refl
 
--- an event's domain, where it is the end of a standing
+-- the domain of an event that ends a standing
 unfoldable ending : Event → ℕ
 ending moves.nothing = 0
 ending (moves.begins d m) = 0
@@ -48,7 +48,7 @@ ending (moves.ends d m) = d
 ending (moves.entered i) = 0
 
 module _ (t : Tree) (s : State) (i d : ℕ) (pos : 0 < d) (room : Has-room (s .places) i) where
-  -- the word that a thread holds to grant at the domain after a row: one that it held before, ACQUIRE_PARENT, or one that is told
+  -- the word that a thread is to grant at the domain after a row: the one that it had before, ACQUIRE_PARENT, or at most the one reported
   abbrev pub Lands : (length : ℕ) → Row-result → Type 0
   Lands u x = (j r v : ℕ) → place (x .state) j ≡ Grant d r v → (place s j ≡ Grant d r v) ⊎ (v ≡ acquire-parent) ⊎ (v ≤ u)
 
@@ -63,11 +63,11 @@ module _ (t : Tree) (s : State) (i d : ℕ) (pos : 0 < d) (room : Has-room (s .p
       (λ z. inr (f r v (sym (stored p) ∙ (rw z at e))))
       (λ z. inl (sym (ap place-of (numbers-other (s .places) i j (words-of p) z)) ∙ e))
 
-  -- the place is no Grant, or one that helps
+  -- a row that leads to no Grant
   elsewhere : (p : Place) → grants p ≡ false → (j r v : ℕ) → place-of (numbers-at (store-numbers (s .places) i (words-of p)) j) ≡ Grant d r v → (place s j ≡ Grant d r v) ⊎ (v ≡ acquire-parent) ⊎ (v ≤ 0)
   elsewhere p q = lands 0 p (λ r v e. absurd (false≢true (sym q ∙ ap grants e)))
 
-  -- the word of a Grant that helps: the domain is not the root
+  -- a Grant after Help or Linger: its word is ACQUIRE_PARENT, since the domain is not the root
   helping :
       (l r w : ℕ) → Word-at l unlocked acquire-parent w →
       (j r′ v : ℕ) → place-of (numbers-at (store-numbers (s .places) i (words-of (Grant l r w))) j) ≡ Grant d r′ v → (place s j ≡ Grant d r′ v) ⊎ (v ≡ acquire-parent) ⊎ (v ≤ 0)
@@ -75,11 +75,11 @@ module _ (t : Tree) (s : State) (i d : ℕ) (pos : 0 < d) (room : Has-room (s .p
   helping l r _ (at-root z) = lands 0 (Grant l r unlocked) (λ r′ v e. absurd (let zl : l ≡ d = ap (place-domain 0) e in omega arith))
   helping l r _ (below-root z) = lands 0 (Grant l r acquire-parent) (λ r′ v e. inl (sym (ap word-to-grant e)))
 
-  -- the word that a Check at the domain tells
+  -- the word that a Check at the domain reports
   abbrev pub tenure-word : Place → Row-result → ℕ
   tenure-word p x = cond (checks-at d p) (word-to-grant (place (x .state) i)) 0
 
-  -- only a Grant there ends a standing there
+  -- only a Grant at the domain ends a standing there
   abbrev pub Granting : Place → Type 0
   Granting p = (r : ℕ) × (v : ℕ) × (p ≡ Grant d r v)
 
@@ -99,7 +99,7 @@ module _ (t : Tree) (s : State) (i d : ℕ) (pos : 0 < d) (room : Has-room (s .p
   raise-ends p [] m e = absurd (nil≢cons e)
   raise-ends p (r ∷ ms) m e = absurd (let z = ap ending (head-eq-of-cons-eq e) in omega arith)
 
-  -- OF EVERY ROW both
+  -- BOTH, FOR EVERY ROW
   abbrev pub Tells : Place → Row-result → Type 0
   Tells p x = Lands (tenure-word p x) x × Ends p (place-domain (t .home i) p) x
 

@@ -39,7 +39,7 @@ use Rattle.claims.proofs.tenures.Along.{started-along, Passes, leaf-alo
 use Rattle.claims.proofs.tenures.Telling.{tenure-word, row-reports}
 
 module _ (t : Tree) (valid : Accepted t) (bits : Sixteen-bit t) (d : ℕ) (pos : 0 < d) (real : d < t .domains) where
-  -- what holds of n tenures, e entries and the longest l after some steps
+  -- what holds after some steps with n tenures, e entries and longest tenure l
   pub record Tracked (s : WordState) (n e l : ℕ) : Type 0 where
     pub queued : Queued t s
     pub started : first (queued .queues .queue (P t valid d)) ≡ suc (R t valid d) → 1 ≤ n
@@ -79,7 +79,7 @@ module _ (t : Tree) (valid : Accepted t) (bits : Sixteen-bit t) (d : ℕ) (pos :
         let all : low (height t i) (g .stage i) ≡ suc (height t i) = ap (low (height t i)) (c .3) in
         ap (λ y. first (g .queue y)) (sym up) ∙ inv .threads i .heads (suc k) (omega (arith, c .2)) ∙ ap suc (record-suc t i k ∙ ap (λ y. 256 + y) (sym there))
 
-    -- what the step tells
+    -- what the step reports
     abbrev c : ℕ
     c = count (R t valid d) (given t (step t i s))
 
@@ -100,7 +100,7 @@ module _ (t : Tree) (valid : Accepted t) (bits : Sixteen-bit t) (d : ℕ) (pos :
     abbrev l′ : ℕ
     l′ = max l (tenure-length t d (step t i s))
 
-    -- the two parts of the length that is told
+    -- the two parts of the reported length
     abbrev new-tenure : ℕ
     new-tenure = cond (eqb (starts t d (step t i s)) 0) 0 1
 
@@ -127,7 +127,7 @@ module _ (t : Tree) (valid : Accepted t) (bits : Sixteen-bit t) (d : ℕ) (pos :
     length-longer : tenure-length t d (step t i s) ≤ l′
     length-longer = le-max-right l (tenure-length t d (step t i s))
 
-    -- without a tenure nothing is told
+    -- without a tenure no length is reported
     nothing-counted : n ≡ 0 → u ≤ 0
     nothing-counted z = by (checks-at d p) refl
       where
@@ -140,7 +140,7 @@ module _ (t : Tree) (valid : Accepted t) (bits : Sixteen-bit t) (d : ℕ) (pos :
         let short : l ≤ 0 = less-or 0 l _ (λ b. absurd (omega (arith, old .none b))) (λ b. b) in
         max-le short (length-most 0 (λ b. absurd (omega arith)) (nothing-counted (omega arith)))
 
-    -- A PASS AT A LEAF gives a count that a Check has told
+    -- A PASS AT A LEAF gives a count that a Check has reported
     passes : (q : is-leaf t d ≡ true) → Passes t valid d pos q g (row-shown i (place-domain (t .home i) p) x) l′
     unfolding words-in low Says
     passes q m e′ k hold zk =

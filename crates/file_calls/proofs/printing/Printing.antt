@@ -26,7 +26,7 @@ pub printed-fits : (ls b : List ℕ) → length ls ≤ length b → printed ls b
 unfolding printed
 printed-fits ls b h = rw (le-ltb (length b) (length ls) h)
 
--- the first line, and the trace after it: the listing at the front of the buffer
+-- the first line and then the trace: the listing at the front of the buffer
 pub listing-written :
     (out : List ℕ) (x : Counts) (is : List ℕ) → length (listing x is) ≤ length out →
     sets (sets out 0 (first-line x)) (length (first-line x)) (trace-lines is)
@@ -37,7 +37,7 @@ listing-written out x is h =
     let z : 0 + length line ≡ length line = omega arith in
     rw z at (sym (sets-append out 0 line (trace-lines is))) ∙ sets-front out (line ++ trace-lines is) h
 
--- a word at the front and spaced numbers after it, at the front of the buffer
+-- a word and then spaced numbers, at the front of the buffer
 pub line-written :
     (out word ns : List ℕ) → length (word ++ spaced ns) ≤ length out →
     sets (sets out 0 word) (length word) (spaced ns) ≡ (word ++ spaced ns) ++ drop (length (word ++ spaced ns)) out

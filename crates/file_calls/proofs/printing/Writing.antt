@@ -1,4 +1,4 @@
--- A listing's parts stored one after another in a buffer.
+-- The parts of a listing stored in order in a buffer.
 use mathlib.Core.Path.{_≡_, sym}
 use mathlib.Core.List.{List}
 use Prim.Native.Nat.{ℕ, suc, _+_, _/_, _%_, _≤_, _<_}
@@ -9,7 +9,7 @@ use Rattle.model.proofs.Storing.{sets-append, sets-last}
 use Rattle.lock_file.specs.PrintedListing.Listing.{digit, numeral, number-then, trace-lines, spaced}
 use Rattle.lock_file.proofs.printed_listing.Numerals.{numeral-small, numeral-large, trace-lines-next, spaced-next}
 
--- a numeral's last digit, or its only one, may be stored first
+-- a numeral's last digit may be stored first; so may its only one
 pub last-digit :
     (l : List ℕ) (at v k : ℕ) → 10 ≤ v → k ≡ length (numeral (v / 10)) →
     sets (set l (at + k) (digit (v % 10))) at (numeral (v / 10)) ≡ sets l at (numeral v)
@@ -18,7 +18,7 @@ last-digit l at v k h e = rw (e, numeral-large v h) (sym (sets-last l at (numera
 pub only-digit : (l : List ℕ) (at v : ℕ) → v < 10 → set l at (digit v) ≡ sets l at (numeral v)
 only-digit l at v h = rw (numeral-small v h)
 
--- the next of some spaced numbers, and those after it
+-- the next spaced number, and those after it
 pub spaced-written :
     (l : List ℕ) (at : ℕ) (ns : List ℕ) (k : ℕ) → k < length ns →
     sets l at (spaced (drop k ns))

@@ -1,4 +1,4 @@
--- The file call's run in buffers that are longer than it needs: the same answer, and its trace at the front.
+-- The run of the file call in buffers longer than needed: the same answer, with its trace at the front.
 use mathlib.Core.Path.{_≡_, refl, _∙_, ap}
 use mathlib.Core.Bool.{Bool, true, false}
 use mathlib.Core.List.{List}
@@ -39,12 +39,12 @@ schedule-front bs n at l h =
     let long = entries-length bs n at in
     rw (le-ltb (length l) (length is) (omega arith)) (take-at is (drop (length is) l) n long)
 
--- a run enters at most once a step
+-- a run has at most one entry per step
 pub entries-within : (t : Tree) (is : List ℕ) (s : State) → run t is s .counts .entries ≤ length is
 unfolding run run-of counts-of
 entries-within t is s = omega (arith, how-many-most is-entry (steps t is s), steps-length t is s)
 
--- more room for the trace makes no difference
+-- a longer trace buffer makes no difference
 room-same :
     (t : Tree) (s : LockState) (is : List ℕ) (a b : ℕ) → length is ≤ a → length is ≤ b → run-refusal t s is a ≡ run-refusal t s is b
 unfolding run-refusal run-tests tree-tests first-refusal lowest-bad bad-room
@@ -57,7 +57,7 @@ run-same w is buffer h =
     let enough : length is ≤ length own = omega (arith, length-replicate {A = ℕ} (length is) 0) in
     rw (room-same (tree-of w) fresh-lock is (length buffer) (length own) h enough)
 
--- the listing of a run takes the front of its trace buffer
+-- the listing of a run uses only the front of its trace buffer
 front-listed :
     (r : Refusal) (s : LockState) (x : Run) (c : Counters) (buffer : List ℕ) (room : ℕ) → length (x .trace) ≡ x .counts .entries →
     run-outcome (run-reply r s x c) (take (run-reply r s x c .counts .entries) (run-buffer r buffer x)) room
@@ -82,7 +82,7 @@ run-listed w is buffer room h =
     (count-law (tree-of w) is fresh-words .traced)
     ∙ ap (λ r. run-outcome r (run (tree-of w) is fresh-words .trace) room) (run-same w is buffer h)
 
--- a run's entries are no more than its schedule's
+-- a run has at most as many entries as its schedule
 pub replied-within : (w : TreeWords) (is buffer : List ℕ) → run-answer w fresh-lock is buffer .counts .entries ≤ length is
 unfolding run-answer run-reply
 replied-within w is buffer =
@@ -90,11 +90,11 @@ replied-within w is buffer =
     (run-accepted (run (tree-of w) is fresh-words) (counters-after-run (tree-of w) is fresh-lock)) (run-refused (run-refusal (tree-of w) fresh-lock is (length buffer)) fresh-lock)
     (λ e. entries-within (tree-of w) is fresh-words) (λ e. omega arith)
 
--- the state that the code has of its fresh call
+-- the state that the code gets from its fresh call
 pub fresh-zero : (w : TreeWords) (r : FreshReply) → r ≡ fresh-answer w 0 → r .state ≡ fresh-lock
 fresh-zero w r e = ap (λ x. x .state) e ∙ zero-start w
 
--- what the code has in its buffers, put together
+-- the contents of the code's buffers together
 pub run-in-buffers :
     (bs : List ℕ) (at : ℕ) (w : TreeWords) (s : LockState) (r : RunReply) (room-for-schedule schedule buffer trace : List ℕ) →
     let n = (length bs - at) / 2 in

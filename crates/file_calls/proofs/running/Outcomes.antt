@@ -26,7 +26,7 @@ pub listing-fits : (ls : List ℕ) (room : ℕ) → length ls ≤ room → listi
 unfolding listing-outcome
 listing-fits ls room h = rw (le-ltb room (length ls) h)
 
--- a listing is never empty, so that nothing is printed only where it does not fit
+-- a listing is never empty, so nothing is printed only if it does not fit
 pub listing-turned-down : (x : Counts) (is : List ℕ) (room : ℕ) → printed-length (listing x is) room ≡ 0 → room < length (listing x is)
 unfolding printed-length
 listing-turned-down x is room e = by (ltb room (length (listing x is))) refl
@@ -48,7 +48,7 @@ pub file-long : (bs : List ℕ) (room : ℕ) → 65536 < length bs → file-outc
 unfolding file-outcome
 file-long bs room h = rw (lt-ltb 65536 (length bs) h)
 
--- any other, by how far reading came
+-- any other file, by how far reading came
 module _ (bs : List ℕ) (room : ℕ) (h : length bs ≤ 65536) (t : TreeRead) (read : t ≡ tree-read bs) where
   pub file-at :
       (at : ℕ) → t .reached ≡ At at →

@@ -38,7 +38,7 @@ pub schedule-over : (is : List ℕ) (k : ℕ) → length is ≤ k → written-sc
 unfolding written-schedule
 schedule-over is k h = rw (drop-of-length-le is h)
 
--- an entry stored, and those after it
+-- an entry, and those after it
 pub thread-stored :
     (home : ℕ → ℕ) (n i b h : ℕ) → i < n → home i ≡ h → (l : List ℕ) (at : ℕ) →
     (length (written-threads home (n - i) i b) ≡ length (written-thread b h) + length (written-threads home (n - (i + 1)) (i + 1) h))

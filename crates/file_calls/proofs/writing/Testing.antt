@@ -1,4 +1,4 @@
--- What the tests of a schedule in code say of the definition's.
+-- What the code's tests of a schedule imply about the definition's.
 use mathlib.Core.Path.{_≡_, sym, ap, _∙_}
 use mathlib.Core.List.{List}
 use Prim.Native.Nat.{ℕ, _≤_}
@@ -13,7 +13,7 @@ use Rattle.refusals.specs.declared.Refusal.{Refusal}
 use Rattle.refusals.specs.Arrays.{refusal-words, threads-in, schedule-room-tests}
 use Rattle.schedules.proofs.Alone.{schedule-decides, alone-decides}
 
--- the code tests a schedule with a trace buffer of its length, so that 13 refuses nothing
+-- the code tests a schedule with a trace buffer of the schedule's length, so 13 refuses nothing
 pub schedule-refusal-words :
     (w : TreeWords) (is : List ℕ) (s : Refusal) → tree-refusal (tree-of w) .number ≡ 0 →
     s ≡ refusal-words (first-refusal (schedule-room-tests (threads-in (w .threads)) is (length is))) → s ≡ refusal-words (first-refusal (schedule-tests (tree-of w) is))

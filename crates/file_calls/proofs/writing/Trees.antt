@@ -22,7 +22,7 @@ pub parts-length : (w : TreeWords) → length (written-tree (tree-of w)) ≡ 3 +
 unfolding tree-of
 parts-length w = tree-length (tree-of w)
 
--- what the code writes, which reads the arrays, is what the definition says of the tree
+-- what the code writes from the arrays is what the definition gives for the tree
 module _ (w : TreeWords) (n : ℕ) where
   pub domains-same :
       n ≡ w .domains →
@@ -47,7 +47,7 @@ tree-stored w l =
     (sets-append front 1 (domains-of w) (low-first-bytes (w .threads) ++ threads-of w)
     ∙ sets-append (sets front 1 (domains-of w)) (1 + length (domains-of w)) (low-first-bytes (w .threads)) (threads-of w))
 
--- the schedule after it: the file at the front of the buffer
+-- the tree and then the schedule: the file at the front of the buffer
 pub file-stored :
     (t : Tree) (is l : List ℕ) → length (written-file t is) ≤ length l →
     sets (sets l 0 (written-tree t)) (length (written-tree t)) (written-schedule is) ≡ written-file t is ++ drop (length (written-file t is)) l

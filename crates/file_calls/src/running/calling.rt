@@ -1,4 +1,4 @@
-// The file call's run: from a fresh lock, with the schedule and the trace in buffers of its own.
+// The run of the file call: from a fresh lock, with its own buffers for schedule and trace.
 ghost use mathlib.Core.Path.{_≡_};
 ghost use Prim.Native.Nat.{_≤_};
 ghost use lib.ListN.{length, take};
@@ -8,7 +8,7 @@ use lock_file::file_answers::FileReply;
 use model::RunReply;
 use model::TreeWords;
 
-// What a run replied, as the file call answers it.
+// The answer of the file call, given the reply of the run.
 fn answer_run(reply: RunReply, trace: &[u16], output: &mut [u8]) -> FileReply
     requires { ⌜ reply .counts .entries ≤ length (now trace) ⌝ }
     requires { ⌜ length (now trace) ≤ 65536 ⌝ }
@@ -39,7 +39,7 @@ fn answer_run(reply: RunReply, trace: &[u16], output: &mut [u8]) -> FileReply
     }
 }
 
-// The run, with lent buffers for the schedule and the trace.
+// The run, with borrowed buffers for the schedule and the trace.
 fn run_in(
     file: &[u8],
     at: usize,

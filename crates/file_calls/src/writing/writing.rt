@@ -1,4 +1,4 @@
-// Writing a lock file from left to right, into a buffer that has room.
+// Writes a lock file from left to right, into a buffer that is long enough.
 ghost use mathlib.Core.Path.{_≡_};
 ghost use mathlib.Core.List.{[]};
 ghost use Prim.Native.Nat.{_+_, _-_, _*_, _<_, _≤_};
@@ -9,10 +9,10 @@ ghost use Rattle.refusals.specs.Arrays.{tree-in};
 ghost use Rattle.lock_file.specs.FileWriter.Writing.{low-first-bytes, written-domain, written-domains, written-thread, written-threads, written-schedule, first-byte, written-tree};
 use model::TreeWords;
 
-// What a threshold is that is absent.
+// The threshold of a domain without a threshold field.
 const ABSENT_THRESHOLD: u16 = 16;
 
-// A number in two bytes at a position, low byte first; returns the position after them.
+// Writes a number in two bytes at a position, low byte first; returns the position after them.
 fn put_two_bytes(buffer: &mut [u8], at: usize, value: u16) -> usize
     requires { ⌜ at + 2 ≤ length (now buffer) ⌝ }
     ensures { λ r. ⌜ r ≡ at + 2 ⌝ }
@@ -23,7 +23,7 @@ fn put_two_bytes(buffer: &mut [u8], at: usize, value: u16) -> usize
     at + 2
 }
 
-// A domain's entry at a position: a bit set only where a value differs from its default; returns the position after it.
+// Writes a domain's entry at a position, with a bit set only if a value differs from its default; returns the position after it.
 fn put_domain(buffer: &mut [u8], at: usize, parent: u8, threshold: u16) -> usize
     requires { ⌜ at + length (written-domain parent threshold) ≤ length (now buffer) ⌝ }
     ensures { λ r. ⌜ r ≡ at + length (written-domain parent threshold) ⌝ }
@@ -47,7 +47,7 @@ fn put_domain(buffer: &mut [u8], at: usize, parent: u8, threshold: u16) -> usize
     put_two_bytes(buffer, at + 2, threshold)
 }
 
-// The entries of the domains 1 to D - 1 from a position on; returns the position after them.
+// Writes the entries of the domains 1 to D - 1 at a position; returns the position after them.
 fn put_domains<'a>(
     buffer: &mut [u8],
     start: usize,
@@ -73,7 +73,7 @@ fn put_domains<'a>(
     at
 }
 
-// A thread's entry at a position: a home only where it is not that of the thread before; returns the position after it.
+// Writes a thread's entry at a position, with a home only if it is not that of the thread before; returns the position after it.
 fn put_thread(buffer: &mut [u8], at: usize, before: u8, home: u8) -> usize
     requires { ⌜ at + length (written-thread before home) ≤ length (now buffer) ⌝ }
     ensures { λ r. ⌜ r ≡ at + length (written-thread before home) ⌝ }
@@ -88,7 +88,7 @@ fn put_thread(buffer: &mut [u8], at: usize, before: u8, home: u8) -> usize
     at + 2
 }
 
-// The entries of the threads 0 to T - 1 from a position on; returns the position after them.
+// Writes the entries of the threads 0 to T - 1 at a position; returns the position after them.
 fn put_threads(buffer: &mut [u8], start: usize, homes: &[u8; 256], threads: usize) -> usize
     requires { ⌜ threads ≤ 256 ⌝ }
     requires { ⌜ start + length (written-threads (tree-in 0 threads [] [] (now homes) .home) threads 0 0) ≤ length (now buffer) ⌝ }
@@ -118,7 +118,7 @@ fn first_byte_of(tree: TreeWords) -> u8
     tree.domains as u8 + 128
 }
 
-// The tree at the front of a buffer; returns its length.
+// Writes the tree at the front of a buffer; returns its length.
 pub(crate) fn put_tree(buffer: &mut [u8], tree: TreeWords) -> usize
     requires { ⌜ (0 < tree .domains) × (tree .domains ≤ 64) ⌝ }
     requires { ⌜ tree .threads ≤ 256 ⌝ }
@@ -143,7 +143,7 @@ pub(crate) fn put_tree(buffer: &mut [u8], tree: TreeWords) -> usize
     )
 }
 
-// The schedule from a position on, two bytes an entry.
+// Writes the schedule at a position, two bytes per entry.
 pub(crate) fn put_schedule(buffer: &mut [u8], start: usize, schedule: &[u16])
     requires { ⌜ start + 2 * length (now schedule) ≤ length (now buffer) ⌝ }
     ensures { λ r. ⌜ now (buffer .exit) ≡ sets (now (buffer .entry)) start (written-schedule (now (schedule .entry))) ⌝ }

@@ -1,4 +1,4 @@
--- `hmcs::print`. The printed front of the output is within it.
+-- `hmcs::print` meets its contract: the printed front of the output is within it.
 use native.Mathlib.Omega.{arith}
 use lib.ListN.{length-take}
 use borrow.Author.Needs.{needs}

@@ -1,4 +1,4 @@
--- `host::hmcs_chain` meets its contract: what the chain's call ensures, read off field by field.
+-- `host::hmcs_chain` meets its contract: what the chain's call ensures, field by field.
 use mathlib.Core.Path.{ap}
 use borrow.Author.Needs.{needs}
 use Rattle.chain.specs.declared.ChainReply.{ChainReply}

@@ -1,5 +1,5 @@
--- `host::hmcs_fresh_in_place` meets its contract: the walk of the calls in place (`InPlaceWalk`, which also says what the toolchain's letters stand for), at `fresh_kept` as the function by value.
--- All that the proof knows of `fresh_kept` is that it meets its contract, `r ≡ fresh-kept (fresh-answer ..) ..`.
+-- `host::hmcs_fresh_in_place` meets its contract: the walk of the calls in place (`InPlaceWalk`, which also explains the toolchain's letters), with `fresh_kept` as the function by value.
+-- The proof uses only that `fresh_kept` meets its contract, `r ≡ fresh-kept (fresh-answer ..) ..`.
 --
 use mathlib.Core.Path.{refl}
 use types.Kit.{_$_, !, step}
@@ -42,7 +42,7 @@ ends 𝓤 H A W C Λ p l r is-h known =
     step (λ s. stores this W p l r known is-h (reads this W p l r 2 refl) $
     answers this W p l r known (and-then ! (reads this W p l r 0 refl) (and-then ! (reads this W p l r 1 refl) (no-more !))) $ s)
 
--- the one `refl` is that the contract is what the walk shows: where they differ, its error names what differs
+-- the one `refl` shows that the contract is what the walk proves; if they differ, its error names the difference
 pub hmcs-fresh-in-place-spec : {M : Type 1} → stated.statement M
 unfolding code.routine
 hmcs-fresh-in-place-spec 𝓤 H 𝓜 𝓖 𝓡 =

@@ -1,4 +1,4 @@
--- `host::hmcs_run_file` meets its contract: what the file call ensures, read off field by field.
+-- `host::hmcs_run_file` meets its contract: what the file call ensures, field by field.
 use mathlib.Core.Path.{ap}
 use borrow.Author.Needs.{needs}
 use Rattle.lock_file.specs.declared.file_answers.FileReply.{FileReply}

@@ -1,5 +1,5 @@
--- `host::hmcs_step_in_place` meets its contract: the walk of the calls in place (`InPlaceWalk`, which also says what the toolchain's letters stand for), at `lock::step_lock` as the function by value.
--- All that the proof knows of `step_lock` is that it meets its contract, `r ≡ step-answer ..`.
+-- `host::hmcs_step_in_place` meets its contract: the walk of the calls in place (`InPlaceWalk`, which also explains the toolchain's letters), with `lock::step_lock` as the function by value.
+-- The proof uses only that `step_lock` meets its contract, `r ≡ step-answer ..`.
 --
 use mathlib.Core.Path.{refl}
 use types.Kit.{_$_, !, step}
@@ -42,7 +42,7 @@ ends 𝓤 H A W C Λ p l r is-h known =
     step (λ s. stores this W p l r known is-h (reads this W p l r 4 refl) $
     answers this W p l r known (and-then ! (reads this W p l r 0 refl) (and-then ! (reads this W p l r 1 refl) (and-then ! (reads this W p l r 2 refl) (and-then ! (reads this W p l r 3 refl) (no-more !))))) $ s)
 
--- the one `refl` is that the contract is what the walk shows: where they differ, its error names what differs
+-- the one `refl` shows that the contract is what the walk proves; if they differ, its error names the difference
 pub hmcs-step-in-place-spec : {M : Type 1} → stated.statement M
 unfolding code.routine
 hmcs-step-in-place-spec 𝓤 H 𝓜 𝓖 𝓡 =

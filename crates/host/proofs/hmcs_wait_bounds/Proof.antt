@@ -1,4 +1,4 @@
--- `host::hmcs_wait_bounds` meets its contract: what `wait-bounds` ensures, with its refusal as the host gets it.
+-- `host::hmcs_wait_bounds` meets its contract: what `wait_bounds` ensures, with its refusal as the host gets it.
 use mathlib.Core.Path.{ap}
 use borrow.Author.Needs.{needs}
 use Rattle.host.proofs.Answered.{as-answer}

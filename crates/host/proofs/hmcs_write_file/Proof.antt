@@ -1,4 +1,4 @@
--- `host::hmcs_write_file` meets its contract: what the writer ensures, read off field by field.
+-- `host::hmcs_write_file` meets its contract: what the writer ensures, field by field.
 use mathlib.Core.Path.{ap}
 use borrow.Author.Needs.{needs}
 use Rattle.lock_file.specs.declared.file_writer.WriteReply.{WriteReply}

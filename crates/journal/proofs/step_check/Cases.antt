@@ -1,4 +1,4 @@
--- The cases hold: each is computed.
+-- The cases hold, by computation.
 use mathlib.Core.Path.{_≡_, refl, ap, _∙_}
 use mathlib.Core.Bool.{Bool, true, _&&_, cond}
 use mathlib.Core.List.{List, [], _∷_}
@@ -21,7 +21,7 @@ use Rattle.model.proofs.Computing.{refusal-by, same-lock-formed, state-sized, s
 use Rattle.journal.specs.StepCheck.Answers.{bad-lengths, length-tests, early-tests, early-refusal, step-number, checked, replied, refused, steps-answer}
 use Rattle.journal.specs.Cases.StepCheck.{Case, passing, passing-kinds, passing-domains, one-pass, releasing, releasing-kinds, releasing-domains, full-entries, empty-leaf, cases, holds, all-hold}
 
--- what refuses before the steps, where 10 is tested by walks
+-- what refuses before the steps, with 10 tested by single passes
 unfoldable walked-refusal : Case → Refusal
 walked-refusal c =
     let t = tree-of (c .words) in
@@ -45,7 +45,7 @@ unfoldable all-hold-by-walks : List Case → Bool
 all-hold-by-walks [] = true
 all-hold-by-walks (c ∷ cs) = holds-by-walks c && all-hold-by-walks cs
 
--- the states that the cases hand in are whole
+-- the arrays in the states of the cases have their full lengths
 unfoldable all-sized : List Case → Bool
 all-sized [] = true
 all-sized (c ∷ cs) = state-sized (c .state .words) && all-sized cs

@@ -1,4 +1,4 @@
--- Named steps one after another: those that are right, and the first that is not.
+-- Named steps in order: those that are right, and the first that is not.
 use mathlib.Core.Path.{_≡_, refl, sym, ap, _∙_}
 use mathlib.Core.Bool.{Bool, true, false, cond}
 use mathlib.Core.List.{List, [], _∷_, _++_}
@@ -20,7 +20,7 @@ use Rattle.model.proofs.Laws.Runs.{steps-join, steps-take}
 use Rattle.journal.specs.StepCheck.Answers.{step-number, Checked, ended, stopped, one-more, next, checked}
 use Rattle.journal.specs.StepCheck.Laws.{after-first}
 
--- THE STATE after the first steps: none, and one more in front
+-- THE STATE after the first steps: after none, and after one more at the front
 pub after-none : (t : Tree) (s : LockState) (is : List ℕ) → after-first t s is 0 ≡ s
 unfolding lock-after steps state-after
 after-none t s is = ap (lock-state (s .words)) (counters-none t (s .counters))
@@ -31,7 +31,7 @@ after-next t s i is n =
     let x = step t i (s .words) in
     ap (lock-state (state-after (x .state) (steps t (take n is) (x .state)))) (counters-join t (s .counters) (x ∷ []) (steps t (take n is) (x .state)))
 
--- 19 of a step in the state before it is that of the run
+-- 19 for a step alone, in the state before it, is 19 for the run at that step
 pub above-at :
     (t : Tree) (s : LockState) (is : List ℕ) (k : ℕ) → k < length is →
     (let s′ = after-first t s is k in any-above (counters-after t (s′ .counters) (step t (getD is k 0) (s′ .words) ∷ [])) ≡ bad-counter t s is k)
@@ -74,21 +74,21 @@ module _ (t : Tree) (s : LockState) (i k d : ℕ) where
       unfolding step-number
       number-0 e f = rw (lt-leb (t .threads) i h, a, eq-eqb k (kind-number (x .kind)) e, eq-eqb d (x .domain) f)
 
--- SO MANY NAMED STEPS ARE RIGHT
+-- THE FIRST NAMED STEPS ARE RIGHT
 abbrev pub number-at : Tree → LockState → (threads kinds domains : List ℕ) → (position : ℕ) → ℕ
 number-at t s is ks ds j = step-number t (after-first t s is j) (getD is j 0) (getD ks j 0) (getD ds j 0)
 
 abbrev pub Right : Tree → LockState → (threads kinds domains : List ℕ) → (count : ℕ) → Type 0
 Right t s is ks ds m = (j : ℕ) → j < m → number-at t s is ks ds j ≡ 0
 
--- of the first step, and of those after it
+-- the number of the first step, and of those after it
 pub first-number : (t : Tree) (s : LockState) (i k d : ℕ) (is ks ds : List ℕ) → number-at t s (i ∷ is) (k ∷ ks) (d ∷ ds) 0 ≡ step-number t s i k d
 first-number t s i k d is ks ds = ap (λ v. step-number t v i k d) (after-none t s (i ∷ is))
 
 pub later-number : (t : Tree) (s : LockState) (i k d : ℕ) (is ks ds : List ℕ) (j : ℕ) → number-at t s (i ∷ is) (k ∷ ks) (d ∷ ds) (suc j) ≡ number-at t (next t s i) is ks ds j
 later-number t s i k d is ks ds j = ap (λ v. step-number t v (getD is j 0) (getD ks j 0) (getD ds j 0)) (after-next t s i is j)
 
--- a named step that is right, and one that is not
+-- if the first named step is right, and if it is not
 goes-on : (t : Tree) (s : LockState) (i k d : ℕ) (is ks ds : List ℕ) → step-number t s i k d ≡ 0 → checked t s (i ∷ is) (k ∷ ks) (d ∷ ds) ≡ one-more (checked t (next t s i) is ks ds)
 unfolding checked
 goes-on t s i k d is ks ds e = rw (eq-eqb (step-number t s i k d) 0 e)
@@ -124,7 +124,7 @@ stops-at t s (i ∷ is) (k ∷ ks) (d ∷ ds) (suc m) n a b h r e z =
     ∙ ap one-more (stops-at t (next t s i) is ks ds m n (omega arith) (omega arith) (omega arith) (λ j l. sym (later-number t s i k d is ks ds j) ∙ r (suc j) (omega arith)) (sym (later-number t s i k d is ks ds m) ∙ e) z)
     ∙ rw (y, after-next t s i is m)
 
--- ONE LIST AFTER ANOTHER: so many steps more
+-- ONE LIST AFTER ANOTHER: the steps of the second are added to those of the first
 abbrev pub shifted : (count : ℕ) → Checked → Checked
 shifted n c = record { number = c .number; steps = n + c .steps; state = c .state }
 
@@ -139,7 +139,7 @@ more-then c f = by (eqb (c .number) 0) refl
     by true e = let z : c .steps + f (c .state) .steps + 1 ≡ c .steps + 1 + f (c .state) .steps = omega arith in rw z
     by false e = refl
 
--- a step in front, right or not
+-- with one step at the front, right or not
 join-step :
     (n : ℕ) (s : LockState) (whole c : Checked) (f : LockState → Checked) → whole ≡ then-checked c f → (v : Bool) → eqb n 0 ≡ v →
     cond v (one-more whole) (stopped n s) ≡ then-checked (cond v (one-more c) (stopped n s)) f

@@ -1,4 +1,4 @@
--- Before the steps: the state's check decides, then 30.
+-- Before the steps: the check of the state decides, then 30.
 use mathlib.Core.Path.{_≡_, refl, sym, ap, _∙_}
 use mathlib.Core.List.{List, []}
 use mathlib.Core.Logic.{_≢_}
@@ -45,7 +45,7 @@ module _ (t : Tree) (s : LockState) (is ks ds : List ℕ) where
     unfolding bad-lengths first-refusal
     lengths-pass e f = lengths-decide ∙ single-missed _ [] refl (rw (eq-eqb (length ks) (length is) e, eq-eqb (length ds) (length is) f))
 
-  -- nothing refuses: the state is taken up, and the lists are of one length
+  -- nothing refuses: the state is accepted, and the lists have the same length
   pub early-passes : early-refusal t s is ks ds .number ≡ 0 → (check-refusal t s .number ≡ 0) × ((length ks ≡ length is) × (length ds ≡ length is))
   unfolding refusal
   early-passes e =

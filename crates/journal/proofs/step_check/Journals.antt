@@ -1,4 +1,4 @@
--- The journal's check agrees.
+-- The check of a journal agrees with the check of steps.
 use mathlib.Core.Path.{_≡_, refl, sym, ap, _∙_, subst}
 use mathlib.Core.List.{List, [], _∷_}
 use Prim.Native.Nat.{ℕ, suc, _≤_}

@@ -1,4 +1,4 @@
--- Named steps that are right keep a state well formed; and where none is wrong, all are counted.
+-- Right steps keep a state well formed; and if none is wrong, all are counted.
 use mathlib.Core.Path.{_≡_, refl}
 use mathlib.Core.Bool.{Bool, true, false, cond}
 use mathlib.Core.List.{List, [], _∷_}
@@ -18,7 +18,7 @@ use Rattle.model.proofs.Laws.Counters.{one-kept}
 use Rattle.model.proofs.Laws.Form.{form-law}
 use Rattle.journal.specs.StepCheck.Answers.{step-number, Checked, stopped, one-more, next, checked}
 
--- what a number of 0 says of a named step
+-- what number 0 implies about a named step
 pub record Named-right (t : Tree) (s : LockState) (i k d : ℕ) : Type 0 where
   pub known : i < t .threads
   pub low : any-above (counters-after t (s .counters) (step t i (s .words) ∷ [])) ≡ false
@@ -43,7 +43,7 @@ module _ (t : Tree) (s : LockState) (i k d : ℕ) where
   unfolding step-number
   named-right e = by-tests _ _ _ _ refl refl refl refl e
 
--- a state that the next call takes up
+-- a state that the next call accepts
 pub record Kept (t : Tree) (s : LockState) : Type 0 where
   pub form : Formed t (s .words)
   pub counts : good-counts t (s .counters) ≡ true
@@ -70,7 +70,7 @@ module _ (t : Tree) (ok : tree-refusal t .number ≡ 0) (bits : Sixteen-bit t) w
   checked-kept s (i ∷ is) (k ∷ ks) (d ∷ ds) g =
       either (step-number t s i k d) (checked t (next t s i) is ks ds) s g (λ e. checked-kept (next t s i) is ks ds (step-kept s i k d e g)) (eqb (step-number t s i k d) 0) refl
 
--- none is wrong: all are counted
+-- if none is wrong, all are counted
 all-or-stop : (n m : ℕ) (c : Checked) (s : LockState) → (c .number ≡ 0 → c .steps ≡ m) → (v : Bool) → eqb n 0 ≡ v → cond v (one-more c) (stopped n s) .number ≡ 0 → cond v (one-more c) (stopped n s) .steps ≡ suc m
 all-or-stop n m c s f true e z = let y = f z in omega arith
 all-or-stop n m c s f false e z = absurd (eqb-false n 0 e z)
@@ -83,7 +83,7 @@ checked-full t s (i ∷ is) (k ∷ ks) [] a b e = absurd (omega arith)
 checked-full t s (i ∷ is) (k ∷ ks) (d ∷ ds) a b e =
     all-or-stop (step-number t s i k d) (length is) (checked t (next t s i) is ks ds) s (λ z. checked-full t (next t s i) is ks ds (omega arith) (omega arith) z) (eqb (step-number t s i k d) 0) refl e
 
--- no more are counted than are named
+-- at most as many are counted as are named
 few-or-stop : (n m : ℕ) (c : Checked) (s : LockState) → c .steps ≤ m → (v : Bool) → cond v (one-more c) (stopped n s) .steps ≤ suc m
 few-or-stop n m c s f true = omega arith
 few-or-stop n m c s f false = omega arith

@@ -50,7 +50,7 @@ early-law w s is ks ds =
       untouched = refused-early w s is ks ds;
     }
 
--- EXACTLY
+-- EXACTLY WHEN IT ACCEPTS, AND WHICH STEP IT REFUSES
 module _ (w : TreeWords) (s : LockState) (is ks ds : List ℕ) (z : early-refusal (tree-of w) s is ks ds .number ≡ 0) where
   abbrev t : Tree
   t = tree-of w
@@ -80,7 +80,7 @@ module _ (w : TreeWords) (s : LockState) (is ks ds : List ℕ) (z : early-refusa
   accepts-if : Of-the-table t s is ks ds → r .number ≡ 0
   accepts-if g = number-is ∙ ap (λ v. v .number) (all-right t s is ks ds ks-long ds-long (right-of t s is ks ds g))
 
-  -- where a step is wrong
+  -- if a step is wrong
   stopped-at : (n m : ℕ) → n ≢ 0 → c ≡ record { number = n; steps = m; state = after-first t s is m } → (r .number ≡ n) × (r .place ≡ m)
   stopped-at n m q f =
       let e = checked-late w s is ks ds z ∙ ap replied f in
@@ -109,7 +109,7 @@ module _ (w : TreeWords) (s : LockState) (is ks ds : List ℕ) (z : early-refusa
       let number = number-of t (after-first t s is p) (getD is p 0) (getD ks p 0) (getD ds p 0) n (g .refused-step) in
       stopped-at n p q (stops-at t s is ks ds p n ks-long ds-long h right number q)
 
-  -- the state
+  -- the state that is left
   state-is : c .state ≡ after-first t s is (c .steps)
   state-is = by (outcome t s is ks ds ks-long ds-long)
     where
@@ -164,7 +164,7 @@ state-law w s is ks ds =
       as-run = λ b e. left w s is ks ds ∙ sym (ran w s is ks ds (take (steps-answer w s is ks ds .checked) is) b e);
     }
 
--- IT IS TAKEN UP
+-- THE NEXT CALL ACCEPTS THE STATE
 module _ (w : TreeWords) (s : LockState) (is ks ds : List ℕ) (f : Formed (tree-of w) (s .words)) (z : early-refusal (tree-of w) s is ks ds .number ≡ 0) where
   facts : (tree-refusal (tree-of w) .number ≡ 0) × (well-formed (tree-of w) (s .words) ≡ true) × (good-counts (tree-of w) (s .counters) ≡ true)
   unfolding check-refusal Check-refusal-law Accepted-law
@@ -178,7 +178,7 @@ module _ (w : TreeWords) (s : LockState) (is ks ds : List ℕ) (f : Formed (tree
   pub taken : Taken-up (tree-of w) (steps-answer w s is ks ds .state)
   taken = rw (checked-late w s is ks ds z) kept
 
-  -- so a next check of lists of one length passes before its steps
+  -- so the next check refuses nothing before its steps if its lists have the same length
   pub next-passes :
       (is′ ks′ ds′ : List ℕ) → length ks′ ≡ length is′ → length ds′ ≡ length is′ → early-refusal (tree-of w) (steps-answer w s is ks ds .state) is′ ks′ ds′ .number ≡ 0
   unfolding Accepted-law
@@ -187,7 +187,7 @@ module _ (w : TreeWords) (s : LockState) (is ks ds : List ℕ) (f : Formed (tree
       let e = accepted-law (tree-of w) s′ .1 (facts .0, taken .form .form, taken .counts) in
       ap (λ v. v .number) (lengths-pass (tree-of w) s′ is′ ks′ ds′ (ap (λ v. v .number) e ∙ accepted-number) a b) ∙ accepted-number
 
-  -- and so does one of both lists
+  -- and neither does one check of both lists
   pub both-pass :
       (is′ ks′ ds′ : List ℕ) → length ks′ ≡ length is′ → length ds′ ≡ length is′ → early-refusal (tree-of w) s (is ++ is′) (ks ++ ks′) (ds ++ ds′) .number ≡ 0
   both-pass is′ ks′ ds′ a b =
@@ -233,7 +233,7 @@ module _ (w : TreeWords) (s : LockState) (is ks ds is′ ks′ ds′ : List ℕ)
   second-is : second ≡ replied (checked (tree-of w) (first .state) is′ ks′ ds′)
   second-is = checked-late w (first .state) is′ ks′ ds′ (next-passes w s is ks ds f z is′ ks′ ds′ a b)
 
-  -- where the first is accepted
+  -- if the first is accepted
   module _ (e : first .number ≡ 0) where
     zero : one .number ≡ 0
     zero = sym (ap (λ v. v .number) first-is) ∙ e

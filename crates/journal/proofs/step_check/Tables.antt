@@ -1,4 +1,4 @@
--- Right steps are those of the step table, and back.
+-- Right steps are exactly those of the step table.
 use mathlib.Core.Path.{_≡_, refl, sym, ap, _∙_, subst}
 use mathlib.Core.Bool.{Bool, true, false, not, cond}
 use mathlib.Core.List.{List, [], _∷_}
@@ -67,7 +67,7 @@ right-of t s (i ∷ is) (k ∷ ks) (d ∷ ds) g (suc j) h =
     })
     j (omega arith)
 
--- THE FIRST STEPS of lists, as lists of their own
+-- THE FIRST STEPS of the lists, as lists of their own
 module _ (t : Tree) (s : LockState) (is ks ds : List ℕ) (m : ℕ) where
   taken-number : (j : ℕ) → j < m → number-at t s (take m is) (take m ks) (take m ds) j ≡ number-at t s is ks ds j
   taken-number j h =
@@ -82,7 +82,7 @@ module _ (t : Tree) (s : LockState) (is ks ds : List ℕ) (m : ℕ) where
   pub first-right : m ≤ length is → Of-the-table t s (take m is) (take m ks) (take m ds) → Right t s is ks ds m
   first-right h g j q = sym (taken-number j q) ∙ right-of t s (take m is) (take m ks) (take m ds) g j (omega (arith, length-take-le m is h))
 
--- WHAT A NUMBER SAYS of a step, and back
+-- WHAT A NUMBER SAYS about a step, and the converse
 module _ (t : Tree) (s : LockState) (i k d : ℕ) where
   abbrev x : Step
   x = step t i (s .words)
@@ -108,7 +108,7 @@ module _ (t : Tree) (s : LockState) (i k d : ℕ) where
   number-of _ (other-kind h a n) = number-26 t s i k d h (sym (count-first t s i []) ∙ a) n
   number-of _ (other-domain h a e n) = number-29 t s i k d h (sym (count-first t s i []) ∙ a) e n
 
--- EITHER all are right, or there is a first that is not
+-- EITHER all are right, or there is a first wrong one
 pub data Outcome (t : Tree) (s : LockState) (is ks ds : List ℕ) : Type 0 where
   all : Right t s is ks ds (length is) → checked t s is ks ds ≡ record { number = 0; steps = length is; state = after-first t s is (length is) } → Outcome t s is ks ds
   first-wrong :

@@ -14,7 +14,7 @@ use Rattle.model.specs.Counters.{lock-state, fresh-lock, lock-after, most-count
 use Rattle.model.specs.Cases.Marked.{tree, at-ticket-root, uncounted, two-homes, one-home, two-in-root, same-lock}
 use Rattle.journal.specs.StepCheck.Answers.{steps-answer}
 
--- a call, number and place that it is to answer, and how many steps it finds right; the state after so many is to be returned
+-- a call, the number and place expected, and how many steps are right; the state after these is returned
 pub record Case : Type 0 where
   pub words : TreeWords
   pub state : LockState
@@ -25,6 +25,7 @@ pub record Case : Type 0 where
   pub place : ℕ
   pub right : ℕ
 
+-- a case with these parts
 abbrev pub answers : (number place right : ℕ) → TreeWords → LockState → (threads kinds domains : List ℕ) → Case
 answers n p r w s is ks ds = record { words = w; state = s; threads = is; kinds = ks; domains = ds; number = n; place = p; right = r }
 
@@ -32,13 +33,15 @@ answers n p r w s is ks ds = record { words = w; state = s; threads = is; kinds 
 unfoldable pub passing : List ℕ
 passing = replicate 4 0 ++ replicate 4 1 ++ replicate 3 0 ++ 1 ∷ []
 
+-- the kinds of these steps
 unfoldable pub passing-kinds : List ℕ
 passing-kinds = 1 ∷ 1 ∷ 1 ∷ 2 ∷ 1 ∷ 1 ∷ 1 ∷ 0 ∷ 5 ∷ 1 ∷ 1 ∷ 3 ∷ []
 
+-- the domains of these steps
 unfoldable pub passing-domains : List ℕ
 passing-domains = 1 ∷ 1 ∷ 0 ∷ 0 ∷ 1 ∷ 1 ∷ 1 ∷ 1 ∷ 1 ∷ 1 ∷ 1 ∷ 1 ∷ []
 
--- below the root a leaf with threads 0 and 1, threshold 1, so that the root is released before the leaf is handed on
+-- a leaf below the root with threads 0 and 1, threshold 1, so that the root is released before the leaf is handed on
 unfoldable pub one-pass : TreeWords
 one-pass = tree 2 2 (0 ∷ 0 ∷ []) (0 ∷ 1 ∷ []) (1 ∷ 1 ∷ [])
 
@@ -46,13 +49,15 @@ one-pass = tree 2 2 (0 ∷ 0 ∷ []) (0 ∷ 1 ∷ []) (1 ∷ 1 ∷ [])
 unfoldable pub releasing : List ℕ
 releasing = replicate 4 0 ++ replicate 3 1 ++ replicate 3 0
 
+-- the kinds of these steps
 unfoldable pub releasing-kinds : List ℕ
 releasing-kinds = 1 ∷ 1 ∷ 1 ∷ 2 ∷ 1 ∷ 1 ∷ 1 ∷ 5 ∷ 1 ∷ 1 ∷ []
 
+-- the domains of these steps
 unfoldable pub releasing-domains : List ℕ
 releasing-domains = 1 ∷ 1 ∷ 0 ∷ 0 ∷ 1 ∷ 1 ∷ 1 ∷ 1 ∷ 1 ∷ 0 ∷ []
 
--- fresh words, and all counters 0 but for the entries of domain 1, which are the most that they may be
+-- fresh words, and all counters 0 except the entries of domain 1, which have the largest value
 unfoldable pub full-entries : LockState
 full-entries = lock-state fresh-words (record { entries = set (replicate 64 0) 1 most-counted; tenures = replicate 64 0; longest = replicate 64 0 })
 
@@ -60,40 +65,42 @@ full-entries = lock-state fresh-words (record { entries = set (replicate 64 0) 1
 unfoldable pub empty-leaf : TreeWords
 empty-leaf = tree 3 1 (0 ∷ 0 ∷ 0 ∷ []) (0 ∷ 2 ∷ 16 ∷ []) (1 ∷ [])
 
+-- the cases
 unfoldable pub cases : List Case
 cases =
-    -- nothing, the whole trace, and its second part from the state after the first
+    -- no steps, the whole trace, and its second part from the state after the first
     answers 0 0 0 two-homes fresh-lock [] [] []
     ∷ answers 0 0 12 two-homes fresh-lock passing passing-kinds passing-domains
     ∷ answers 0 0 1 two-homes (lock-after (tree-of two-homes) fresh-lock (steps (tree-of two-homes) (take 11 passing) fresh-words)) (1 ∷ []) (3 ∷ []) (1 ∷ [])
     -- at a ticket root the draw enters at once
     ∷ answers 0 0 2 (at-ticket-root two-in-root) fresh-lock (0 ∷ 1 ∷ []) (2 ∷ 1 ∷ []) (0 ∷ 0 ∷ [])
-    -- 12, whatever kind and domain are named, and after steps that are right
+    -- 12, whatever kind and domain are named, and after right steps
     ∷ answers 12 0 0 two-homes fresh-lock (3 ∷ []) (9 ∷ []) (9 ∷ [])
     ∷ answers 12 1 1 two-homes fresh-lock (0 ∷ 3 ∷ []) (1 ∷ 1 ∷ []) (1 ∷ 1 ∷ [])
     -- 19 at the step that would enter, before 26 and 29
     ∷ answers 19 3 3 two-homes full-entries (replicate 4 0) (1 ∷ 1 ∷ 1 ∷ 9 ∷ []) (1 ∷ 1 ∷ 0 ∷ 9 ∷ [])
-    -- 26 for the first kind that is not the step's, one above 5 too, before 29
+    -- 26 for the first kind that is not the step's, also for one above 5, before 29
     ∷ answers 26 3 3 two-homes fresh-lock (replicate 4 0) (1 ∷ 1 ∷ 1 ∷ 1 ∷ []) (1 ∷ 1 ∷ 0 ∷ 0 ∷ [])
     ∷ answers 26 0 0 two-homes fresh-lock (0 ∷ 3 ∷ []) (9 ∷ 1 ∷ []) (9 ∷ 9 ∷ [])
-    -- 29 where the kinds agree
+    -- 29 if the kinds agree
     ∷ answers 29 2 2 two-homes fresh-lock (replicate 4 0) (1 ∷ 1 ∷ 1 ∷ 2 ∷ []) (1 ∷ 1 ∷ 1 ∷ 0 ∷ [])
-    -- the leaf is handed on before the root is released: every kind agrees, and a domain does not
+    -- the leaf is handed on before the root is released: every kind agrees, but a domain does not
     ∷ answers 0 0 10 one-pass fresh-lock releasing releasing-kinds releasing-domains
     ∷ answers 29 9 9 one-pass fresh-lock releasing releasing-kinds (take 9 releasing-domains ++ 1 ∷ [])
-    -- 30, before every step; 10 and the tree before it
+    -- 30 comes before every step; 10 and the tests of the tree come before 30
     ∷ answers 30 0 0 two-homes fresh-lock (3 ∷ []) [] (1 ∷ [])
     ∷ answers 30 0 0 two-homes fresh-lock (3 ∷ []) (1 ∷ []) []
     ∷ answers 10 0 0 one-home (uncounted (with-place 0 (Check 0) fresh-words)) (0 ∷ []) [] []
     ∷ answers 16 2 0 empty-leaf (uncounted (with-place 0 (Check 0) fresh-words)) (0 ∷ []) [] [] ∷ []
 
--- WHEN A LINE HOLDS
+-- whether a case holds
 unfoldable pub holds : Case → Bool
 holds c =
     let r = steps-answer (c .words) (c .state) (c .threads) (c .kinds) (c .domains) in
     let after = lock-after (tree-of (c .words)) (c .state) (steps (tree-of (c .words)) (take (c .right) (c .threads)) (c .state .words)) in
     (eqb (r .number) (c .number) && eqb (r .place) (c .place)) && (eqb (r .checked) (c .right) && same-lock (r .state) after)
 
+-- whether every case of a list holds
 unfoldable pub all-hold : List Case → Bool
 all-hold [] = true
 all-hold (c ∷ cs) = holds c && all-hold cs

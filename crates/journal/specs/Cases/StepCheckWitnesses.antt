@@ -1,4 +1,4 @@
--- WHO MEETS WHAT THE LAWS ASK: named steps in two pieces, as the laws of the check of steps have them; docs/WITNESSES.md is the list.
+-- WITNESSES: named steps in two pieces that meet the conditions of the laws of the check of steps; docs/WITNESSES.md lists them.
 use mathlib.Core.Path.{_≡_}
 use mathlib.Core.List.{List}
 use Prim.Native.Nat.{ℕ, _≤_}
@@ -10,7 +10,7 @@ use Rattle.model.specs.Cases.Marked.{two-homes}
 use Rattle.journal.specs.StepCheck.Answers.{early-refusal}
 use Rattle.journal.specs.Cases.StepCheck.{passing, passing-kinds, passing-domains}
 
--- the first eleven steps of the trace that the cases check, and the twelfth
+-- the first eleven steps of the trace in the cases, and the twelfth
 pub record Witnesses : Type 0 where
   pub formed : Formed (tree-of two-homes) (fresh-lock .words)
   pub first : early-refusal (tree-of two-homes) fresh-lock (take 11 passing) (take 11 passing-kinds) (take 11 passing-domains) .number ≡ 0

@@ -1,4 +1,4 @@
--- THE LAWS OF THE CHECK OF STEPS. Each is a statement; proofs/ has its proof.
+-- THE LAWS OF THE CHECK OF STEPS. These are statements; their proofs are in proofs/.
 use mathlib.Core.Path.{_≡_}
 use mathlib.Core.Bool.{true, false}
 use mathlib.Core.List.{List, [], _∷_, _++_}
@@ -19,16 +19,17 @@ use Rattle.journal.specs.Entries.{Named-step, Journal, threads-of, kinds
 use Rattle.journal.specs.Answers.{journal-refusal}
 use Rattle.journal.specs.StepCheck.Answers.{early-tests, early-refusal, refused, steps-answer}
 
--- the numbers of the kinds of some steps, and their domains
+-- the kind numbers of steps
 unfoldable pub kinds-reported : List Step → List ℕ
 kinds-reported [] = []
 kinds-reported (x ∷ xs) = kind-number (x .kind) ∷ kinds-reported xs
 
+-- the domains of steps
 unfoldable pub domains-reported : List Step → List ℕ
 domains-reported [] = []
 domains-reported (x ∷ xs) = x .domain ∷ domains-reported xs
 
--- 1. BEFORE THE STEPS. The tests are a list that the one law of refusals covers; where one refuses, nothing is checked and the state is as it came
+-- 1. BEFORE THE STEPS. The general law of refusals covers the list of tests; if one refuses, nothing is checked and the state is unchanged
 pub record Refuses-early (w : TreeWords) (s : LockState) (threads kinds domains : List ℕ) : Type 0 where
   pub exactly : Refuses-exactly (early-tests (tree-of w) s threads kinds domains)
   pub lengths : early-refusal (tree-of w) s threads kinds domains .number ≡ 0 → (length kinds ≡ length threads) × (length domains ≡ length threads)
@@ -36,17 +37,18 @@ pub record Refuses-early (w : TreeWords) (s : LockState) (threads kinds domains 
       early-refusal (tree-of w) s threads kinds domains .number ≢ 0 →
       steps-answer w s threads kinds domains ≡ refused (early-refusal (tree-of w) s threads kinds domains) s
 
+-- for every call
 unfoldable pub Early-law : Type 0
 Early-law = (w : TreeWords) (s : LockState) (threads kinds domains : List ℕ) → Refuses-early w s threads kinds domains
 
--- 2. EXACTLY. The named steps are those of the step table from a state: all threads are of the tree, no step pushes a counter past 2^63, and kinds and domains are those of the table's steps over these threads
+-- 2. EXACTLY. The named steps are those of the step table from a state: all threads are in the tree, no step raises a counter above 2^63, and kinds and domains are those of the table's steps over these threads
 pub record Of-the-table (t : Tree) (s : LockState) (threads kinds domains : List ℕ) : Type 0 where
   pub threads-known : All-threads t threads
   pub counters-fit : (p : ℕ) → p < length threads → bad-counter t s threads p ≡ false
   pub kinds-given : kinds ≡ kinds-reported (steps t threads (s .words))
   pub domains-given : domains ≡ domains-reported (steps t threads (s .words))
 
--- in which sense a named step is refused by a number, in a state
+-- why a number refuses a named step in a state
 pub data Refused-step (t : Tree) (s : LockState) (thread kind domain : ℕ) : (number : ℕ) → Type 0 where
   no-thread : t .threads ≤ thread → Refused-step t s thread kind domain 12
   counter-full : thread < t .threads → bad-counter t s (thread ∷ []) 0 ≡ true → Refused-step t s thread kind domain 19
@@ -61,12 +63,13 @@ pub data Refused-step (t : Tree) (s : LockState) (thread kind domain : ℕ) : (n
 abbrev pub after-first : Tree → LockState → (threads : List ℕ) → (count : ℕ) → LockState
 after-first t s is n = lock-after t s (steps t (take n is) (s .words))
 
--- refused by a number at a place: the steps before it are of the table, and the step there is refused in the state after them
+-- a number refuses at a place: the steps before it are steps of the table, and the step there is refused in the state after them
 pub record Refused-at (t : Tree) (s : LockState) (threads kinds domains : List ℕ) (number place : ℕ) : Type 0 where
   pub within : place < length threads
   pub before : Of-the-table t s (take place threads) (take place kinds) (take place domains)
   pub refused-step : Refused-step t (after-first t s threads place) (getD threads place 0) (getD kinds place 0) (getD domains place 0) number
 
+-- the check accepts exactly the steps of the table, and refuses exactly at the first other step
 pub record Checks-exactly (w : TreeWords) (s : LockState) (threads kinds domains : List ℕ) : Type 0 where
   pub accepts : (steps-answer w s threads kinds domains .number ≡ 0) ⟺ Of-the-table (tree-of w) s threads kinds domains
   pub refuses :
@@ -74,12 +77,13 @@ pub record Checks-exactly (w : TreeWords) (s : LockState) (threads kinds domains
       ((steps-answer w s threads kinds domains .number ≡ n) × (steps-answer w s threads kinds domains .place ≡ p))
       ⟺ Refused-at (tree-of w) s threads kinds domains n p
 
+-- for every call that is not refused before the steps
 unfoldable pub Exactly-law : Type 0
 Exactly-law =
     (w : TreeWords) (s : LockState) (threads kinds domains : List ℕ) → early-refusal (tree-of w) s threads kinds domains .number ≡ 0 →
     Checks-exactly w s threads kinds domains
 
--- 3. THE STATE is the one after the steps that were found right: all of them where the check accepts, those before the place where it refuses. A run of these, where it is accepted, returns the same
+-- 3. THE STATE is the one after the right steps: all of them if the check accepts, those before the place if it refuses. An accepted run of these steps returns the same state
 pub record Leaves (w : TreeWords) (s : LockState) (threads kinds domains : List ℕ) : Type 0 where
   pub few : steps-answer w s threads kinds domains .checked ≤ length threads
   pub all : early-refusal (tree-of w) s threads kinds domains .number ≡ 0 → steps-answer w s threads kinds domains .number ≡ 0 → steps-answer w s threads kinds domains .checked ≡ length threads
@@ -91,20 +95,22 @@ pub record Leaves (w : TreeWords) (s : LockState) (threads kinds domains : List 
       (trace : List ℕ) → run-answer w s (take (steps-answer w s threads kinds domains .checked) threads) trace .number ≡ 0 →
       steps-answer w s threads kinds domains .state ≡ run-answer w s (take (steps-answer w s threads kinds domains .checked) threads) trace .state
 
+-- for every call
 unfoldable pub State-law : Type 0
 State-law = (w : TreeWords) (s : LockState) (threads kinds domains : List ℕ) → Leaves w s threads kinds domains
 
--- and it is taken up by the next call: it is well formed, with good counters
+-- the next call accepts this state: it is well formed, with good counters
 pub record Taken-up (t : Tree) (s : LockState) : Type 0 where
   pub form : Formed t (s .words)
   pub counts : good-counts t (s .counters) ≡ true
 
+-- for every call on a well-formed state that is not refused before the steps
 unfoldable pub Taken-up-law : Type 0
 Taken-up-law =
     (w : TreeWords) (s : LockState) (threads kinds domains : List ℕ) → Formed (tree-of w) (s .words) →
     early-refusal (tree-of w) s threads kinds domains .number ≡ 0 → Taken-up (tree-of w) (steps-answer w s threads kinds domains .state)
 
--- 4. PIECES ARE THE WHOLE. Two lists of named steps, the second checked from the state that the first check returned. Where the first is refused, the whole is refused alike; where it is accepted, the whole answers what the second does, the place shifted
+-- 4. PIECES. Two lists of named steps, the second checked from the state that the first check returned. If the first is refused, the whole is refused in the same way; if it is accepted, the whole answers what the second does, with the place shifted
 pub record Pieces (w : TreeWords) (s : LockState) (threads kinds domains threads′ kinds′ domains′ : List ℕ) : Type 0 where
   pub first-refused :
       steps-answer w s threads kinds domains .number ≢ 0 →
@@ -128,14 +134,14 @@ pub record Pieces (w : TreeWords) (s : LockState) (threads kinds domains threads
       first .number ≡ 0 →
       steps-answer w s (threads ++ threads′) (kinds ++ kinds′) (domains ++ domains′) .state ≡ steps-answer w (first .state) threads′ kinds′ domains′ .state)
 
--- of lists that belong together, from a state of the right sizes that is taken up
+-- for lists of equal lengths, from a well-formed state with arrays of the right lengths
 unfoldable pub Pieces-law : Type 0
 Pieces-law =
     (w : TreeWords) (s : LockState) (threads kinds domains threads′ kinds′ domains′ : List ℕ) → Formed (tree-of w) (s .words) →
     early-refusal (tree-of w) s threads kinds domains .number ≡ 0 → length kinds′ ≡ length threads′ → length domains′ ≡ length threads′ →
     Pieces w s threads kinds domains threads′ kinds′ domains′
 
--- 5. THE JOURNAL'S CHECK agrees: a journal is accepted exactly if its threads and kinds, with the domains of the table's steps, are accepted here from a fresh lock; journals of more than 2^63 entries aside, which 19 would refuse
+-- 5. THE CHECK OF A JOURNAL agrees: a journal is accepted exactly if its threads and kinds, with the domains of the table's steps, are accepted here from a fresh lock. Journals of more than 2^63 entries are excluded, since 19 would refuse them
 unfoldable pub Journal-law : Type 0
 Journal-law =
     (w : TreeWords) (bytes : List ℕ) (xs : List Named-step) → tree-refusal (tree-of w) .number ≡ 0 → Journal bytes xs → length xs ≤ most-counted →

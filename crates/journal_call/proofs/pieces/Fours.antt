@@ -1,4 +1,4 @@
--- Four entries with the same bit map one after another, and what they leave in the room.
+-- Four consecutive entries with the same bit map, and what they leave in the arrays.
 use mathlib.Core.Path.{_≡_, refl}
 use mathlib.Core.List.{List, [], _∷_}
 use Prim.Native.Nat.{ℕ, _+_, _*_, _≤_, _<_}

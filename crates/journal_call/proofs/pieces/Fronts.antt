@@ -1,4 +1,4 @@
--- A piece: what is read from the front of the room on.
+-- A piece: what is read from the front of the arrays on.
 use mathlib.Core.Path.{_≡_, ap, _∙_}
 use mathlib.Core.List.{List}
 use Prim.Native.Nat.{ℕ, _+_, _≤_, _<_}
@@ -10,7 +10,7 @@ use Rattle.journal_call.specs.Reader.Stretches.{Stops, Read-on}
 use Rattle.journal_call.specs.Pieces.Pieces.{Piece-read}
 use Rattle.journal_call.proofs.reader.Stretching.{as-many, threads-long, kinds-long}
 
--- what stores leave at the front
+-- the front of an array after stores from index 0
 stored-front : (xs js : List ℕ) (n : ℕ) → n ≡ 0 + length js → length js ≤ length xs → take n (sets xs 0 js) ≡ js
 stored-front xs js n e h =
     let z : n ≡ length js = omega arith in

@@ -1,4 +1,4 @@
--- The table of sizes, one byte more at a time; and an entry with bytes enough after it.
+-- The table of sizes, one more byte at a time; and an entry with enough bytes after it.
 use mathlib.Core.Path.{_≡_, sym}
 use mathlib.Core.List.{List}
 use Prim.Native.Nat.{ℕ, _+_, _≤_, _<_}
@@ -29,7 +29,7 @@ one-size bs vs p n v s l f =
           ];
     }
 
--- an entry where four bytes are left, by what is read of it
+-- an entry with at least four bytes left, from what is read of it
 module _ (bs : List ℕ) (p b m : ℕ) (left : p + 4 ≤ length bs) (here : m ≡ getD bs p 0) where
   pub entry-read :
       (i k behind : ℕ) → m ≤ 3 → i ≡ entry-thread bs p b m → k ≡ entry-kind bs p m → behind ≡ p + entry-size m →

@@ -5,7 +5,7 @@ use Prim.Native.Nat.{ℕ, zero, suc, _+_, _-_, _*_, _≤_, _<_}
 use native.Mathlib.Omega.{arith}
 use lib.Dec.{eqb}
 
--- one of two numbers by a bit: the sum of their products with it and with what it leaves of 1
+-- a bit chooses one of two numbers: the first times the bit plus the second times 1 minus the bit
 pub by-product : (g a b : ℕ) → g ≤ 1 → g * a + (1 - g) * b ≡ cond (eqb g 1) a b
 by-product zero a b h = omega arith
 by-product (suc zero) a b h = omega arith

@@ -1,4 +1,4 @@
--- Entries of a journal read one after another.
+-- Consecutive entries of a journal.
 use mathlib.Core.Path.{_≡_, refl, sym, ap, _∙_, subst}
 use mathlib.Core.List.{List, [], _∷_, _++_}
 use Prim.Native.Nat.{ℕ, zero, suc, _+_, _≤_, _<_}
@@ -10,7 +10,7 @@ use Rattle.journal.specs.Reading.{entry-at}
 use Rattle.journal_call.specs.Reader.Stretches.{position-by, position-after, Stretch, none-read, one-read, for-room, for-broken, for-thread, piece-of, Read-on, Stopped-before}
 use Rattle.journal.proofs.Facts.{at-end}
 
--- STRETCHES: one after another
+-- CONSECUTIVE STRETCHES
 stretch-join :
     {known p b e l e′ l′ : ℕ} {bs is ks js ms : List ℕ} → Stretch known bs p b is ks e l → Stretch known bs e l js ms e′ l′ →
     Stretch known bs p b (is ++ js) (ks ++ ms) e′ l′
@@ -25,7 +25,7 @@ still : {known p b e l : ℕ} {bs is ks : List ℕ} → Stretch known bs p b is 
 still none-read z = (refl, refl, refl, refl)
 still (one-read g j s) z = absurd (omega arith)
 
--- stores behind stores
+-- stores, and more stores after them
 sets-join : (xs : List ℕ) (n : ℕ) (is js : List ℕ) → sets (sets xs n is) (n + length is) js ≡ sets xs n (is ++ js)
 sets-join xs n [] js = let z : n + 0 ≡ n = omega arith in rw z
 sets-join xs n (i ∷ is) js = let z : n + suc (length is) ≡ suc n + length is = omega arith in rw z (sets-join (set xs n i) (suc n) is js)
@@ -58,7 +58,7 @@ module _ (known : ℕ) (bs : List ℕ) where
     pub kinds-long : length ks ≡ length ks₀
     kinds-long = ap length (s .kinds-stored) ∙ length-sets ks₀ from (s .new-kinds)
 
-    -- and then some more
+    -- and then more entries
     pub more : (is′ ks′ : List ℕ) (m e l : ℕ) → Read-on known bs at last is ks n is′ ks′ m e l → Read-on known bs p b is₀ ks₀ from is′ ks′ m e l
     more is′ ks′ m e l r =
         let kinds-too : n ≡ from + length (s .new-kinds) = s .counted ∙ ap (λ k. from + k) (sym (as-many (s .read))) in
@@ -73,7 +73,7 @@ module _ (known : ℕ) (bs : List ℕ) where
           kinds-fit = omega (arith, r .kinds-fit, kinds-long);
         }
 
-    -- or nothing was read, and it is tried again
+    -- or nothing was read, and reading is tried again
     pub again : n ≤ from → (is′ ks′ : List ℕ) (m e l : ℕ) → Read-on known bs p b is ks from is′ ks′ m e l → Read-on known bs p b is₀ ks₀ from is′ ks′ m e l
     again h is′ ks′ m e l r =
         let z = still (s .read) (omega (arith, s .counted, h)) in
@@ -94,7 +94,7 @@ module _ (known : ℕ) (bs : List ℕ) where
   pub reached : (n p b end : ℕ) → end ≤ n → Stopped-before known bs end (piece-of n p b 0)
   reached n p b end h = record { stops = for-room; full = λ z l. h }
 
--- POSITIONS: one entry more, or none
+-- POSITIONS after one more entry, or none
 pub position-next :
     (n : ℕ) (bs : List ℕ) (p b i k behind : ℕ) → entry-at bs p b ≡ Named i k behind → position-after (suc n) bs p b ≡ position-after n bs behind i
 unfolding position-after

@@ -1,4 +1,4 @@
--- From what the tests and the pieces come to, to the answer.
+-- The answer, from the tests and the pieces.
 use mathlib.Core.Path.{_≡_, sym, ap, _∙_}
 use mathlib.Core.Bool.{cond}
 use mathlib.Core.List.{List}
@@ -22,7 +22,7 @@ use Rattle.journal.proofs.step_check.Early.{state-decides, kinds-refuse, domain
 use Rattle.journal_call.specs.declared.step_check.pieces.Found.{Found}
 use Rattle.journal_call.specs.StepCheck.Stretches.{found-of, Ready}
 
--- BEFORE THE STEPS, by what the state's check told
+-- BEFORE THE STEPS, by the result of the state's check
 module _ (w : TreeWords) (s : LockState) (is ks ds : List ℕ) (r : Refusal) (e : r ≡ refusal-words (check-answer w s)) where
   abbrev answer : Refusal
   answer = refusal-words (early-refusal (tree-of w) s is ks ds)

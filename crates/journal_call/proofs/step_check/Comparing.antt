@@ -1,4 +1,4 @@
--- A named step against what the run's loop told of it.
+-- A named step compared with what the run's loop reported for it.
 use mathlib.Core.Path.{_≡_, sym, ap, _∙_}
 use mathlib.Core.Bool.{true, false}
 use mathlib.Core.List.{List}
@@ -26,7 +26,7 @@ module _ (hs is ks ds cs : List ℕ) (j : ℕ) where
     both-same z =
         rw (eq-eqb (getD ks j 0) (getD cs j 0 % 8) k, eq-eqb (getD ds j 0) (row-domain (getD hs (getD is j 0) 0) ((getD cs j 0 / 8) % 16) (getD cs j 0 / 128)) (sym f ∙ z ∙ same))
 
--- a thread against the number of threads
+-- a thread compared with the number of threads
 pub not-below : (n v x : ℕ) → v ≡ x → n ≤ v → leb n x ≡ true
 not-below n v x e h = le-leb n x (omega arith)
 

@@ -1,4 +1,4 @@
--- A piece of named steps: what was told of its steps against what is named.
+-- A piece of named steps: what was reported for its steps compared with what is named.
 use mathlib.Core.Path.{_≡_, refl, sym, ap, _∙_, subst}
 use mathlib.Core.Bool.{Bool, true, false, _&&_, not, cond}
 use mathlib.Core.List.{List, [], _∷_}
@@ -37,7 +37,7 @@ use Rattle.journal_call.specs.declared.step_check.pieces.Found.{Found}
 use Rattle.journal_call.specs.StepCheck.Stretches.{found-of, Ready, Stretch, same-kind, same-domain, differs, Comparable}
 use Rattle.journal_call.proofs.step_check.Stretching.{all-known}
 
--- what the loop told of each step
+-- what the loop reported for each step
 code-at :
     (b : List ℕ) (t : Tree) (is : List ℕ) (s : State) (n k : ℕ) → k < n → n ≤ length is → n ≤ length b →
     getD (codes-front b (steps t (take n is) s)) k 0 ≡ step-code (step t (getD is k 0) (state-after s (steps t (take k is) s)))
@@ -52,7 +52,7 @@ module _ (w : TreeWords) (s : LockState) (is ks ds : List ℕ) (g : Ready (tree-
   abbrev t : Tree
   t = tree-of w
 
-  -- so many of its threads are stepped
+  -- the first threads of the piece, which are stepped
   first-known : (m : ℕ) → m ≤ st .steps → All-threads t (take m is)
   first-known m h =
       let long : length (take m is) ≡ m = length-take-le m is (omega (arith, S .within)) in
@@ -82,7 +82,7 @@ module _ (w : TreeWords) (s : LockState) (is ks ds : List ℕ) (g : Ready (tree-
         }
 
     module _ (m : ℕ) (L : Lowest (st .steps) (differs (w .homes) is ks ds codes) m) where
-      -- a step as it was told
+      -- one step, as it was reported
       module _ (j : ℕ) (h : j < st .steps) where
         abbrev before : LockState
         before = after-first t s is j
@@ -138,7 +138,7 @@ module _ (w : TreeWords) (s : LockState) (is ks ds : List ℕ) (g : Ready (tree-
       so-far : (n : ℕ) → n ≤ m → Right t s is ks ds n
       so-far n h j l = right j (omega (arith, L .within)) (L .passed j (omega arith))
 
-      -- none is wrong
+      -- no step is wrong
       pub piece-passes : st .steps ≤ m → (record { number = st .number; steps = st .steps } ≡ found-of (checked t s is ks ds)) × (after-first t s is (st .steps) ≡ checked t s is ks ds .state)
       piece-passes h =
           let all : checked t s is ks ds ≡ record { number = st .number; steps = st .steps; state = after-first t s is (st .steps) } =
@@ -150,7 +150,7 @@ module _ (w : TreeWords) (s : LockState) (is ks ds : List ℕ) (g : Ready (tree-
           ] in
           (ap found-of (sym all), ap (λ v. v .state) (sym all))
 
-      -- one is
+      -- a step is wrong
       pub piece-stops :
           m < st .steps → (number : ℕ) → number ≡ cond (eqb (getD ks m 0) (getD codes m 0 % 8)) 29 26 →
           (record { number = number; steps = m } ≡ found-of (checked t s is ks ds)) × (after-first t s is m ≡ checked t s is ks ds .state)

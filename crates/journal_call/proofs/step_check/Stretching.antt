@@ -1,4 +1,4 @@
--- How many threads of a piece can be stepped, by the first that is unknown and by what 19 refuses.
+-- How many threads of a piece can be stepped, given the first unknown one and what 19 refuses.
 use mathlib.Core.Path.{_≡_, refl, sym, ap, _∙_, subst}
 use mathlib.Core.Bool.{Bool, true, false}
 use mathlib.Core.List.{List, [], _∷_}
@@ -28,20 +28,20 @@ use Rattle.journal.specs.StepCheck.Laws.{after-first}
 use Rattle.journal.proofs.step_check.Checking.{above-at, number-12, number-19}
 use Rattle.journal_call.specs.StepCheck.Stretches.{Ready, unknown, Stretch}
 
--- threads that are all of the tree
+-- if each entry is a thread of the tree, all are
 pub all-known : (t : Tree) (is : List ℕ) → ((j : ℕ) → j < length is → getD is j 0 < t .threads) → All-threads t is
 unfolding All-threads
 all-known t [] h = tt
 all-known t (i ∷ is) h = (h 0 (omega arith), all-known t is (λ j l. h (suc j) (omega arith)))
 
--- 19 of the first entries is that of all
+-- 19 at one of the first entries is the same with all entries
 pub taken-counter : (t : Tree) (s : LockState) (is : List ℕ) (m p : ℕ) → p < m → bad-counter t s (take m is) p ≡ bad-counter t s is p
 unfolding bad-counter
 taken-counter t s is m p h =
     ap (λ v. any-above (counters-after t (s .counters) (take (p + 1) v))) (steps-take t m is (s .words))
     ∙ ap (λ v. any-above (counters-after t (s .counters) v)) (take-take (p + 1) m (steps t is (s .words)) (omega arith))
 
--- what a refusal by one test says
+-- what a refusal by one test implies
 pub record One-refused (f : ℕ → Bool) (k number place : ℕ) : Type 0 where
   pub within : place < k
   pub bad : f place ≡ true
@@ -62,7 +62,7 @@ module _ (w : TreeWords) (s : LockState) (is : List ℕ) (g : Ready (tree-of w) 
   abbrev t : Tree
   t = tree-of w
 
-  -- the first of them, as a part from 0 on is written
+  -- the first entries, written as a part from 0 on
   abbrev js : List ℕ
   js = take (m - 0) is
 
@@ -92,7 +92,7 @@ module _ (w : TreeWords) (s : LockState) (is : List ℕ) (g : Ready (tree-of w) 
     unfolding Refusal-law has-number
     tests-exact = refusal-law (counter-tests t s js) (numbered (counter-tests t s js) refl)
 
-    -- 19
+    -- 19 stops the stretch
     pub counter-stops : (r .number ≡ 0 → ⊥) → (p : ℕ) → p ≡ r .place → Stretch t s is (record { number = 19; steps = p })
     unfolding refusal
     counter-stops n p at =
@@ -119,7 +119,7 @@ module _ (w : TreeWords) (s : LockState) (is : List ℕ) (g : Ready (tree-of w) 
           let pass = tests-exact .passed .0 (tests-exact .zero-accepted (refusal-words-zero r _ e z)) in
           sym (taken-counter t s is (m - 0) j (omega arith)) ∙ pass .0 j (omega (arith, long))
 
-      -- 12
+      -- 12 stops the stretch
       pub thread-stops : m < length is → Stretch t s is (record { number = 12; steps = m })
       unfolding tree-of
       thread-stops h =
@@ -132,7 +132,7 @@ module _ (w : TreeWords) (s : LockState) (is : List ℕ) (g : Ready (tree-of w) 
             refuses = λ _ k d. number-12 t (after-first t s is m) (getD is m 0) k d (leb-true (w .threads) (getD is m 0) (L .fails h));
           }
 
-      -- nothing
+      -- nothing stops it
       pub nothing-stops : length is ≤ m → Stretch t s is (record { number = 0; steps = m })
       nothing-stops h =
           record {

@@ -16,7 +16,7 @@ use Rattle.journal.proofs.step_check.Checking.{shifted, then-checked, checked-j
 use Rattle.journal.proofs.step_check.Keeping.{checked-kept, checked-full, checked-few}
 use Rattle.journal_call.specs.StepCheck.Stretches.{found-of, Ready, Piece-fits}
 
--- so many steps are checked, and those ahead decide the rest
+-- some steps are checked, and those ahead decide the rest
 pub record So-far (t : Tree) (s₀ : LockState) (is ks ds : List ℕ) (s : LockState) (at : ℕ) : Type 0 where
   pub ready : Ready t s
   pub within : at ≤ length is
@@ -69,7 +69,7 @@ module _ (w : TreeWords) (s₀ : LockState) (is ks ds : List ℕ) (a : length ks
         let all : checked t s₀ is ks ds ≡ shifted at c = whole ∙ rw (ne-eqb (c .number) 0 n) in
         (ap found-of (sym all), ap (λ v. v .state) (sym all))
 
-    -- none is: on with the next piece
+    -- no step is wrong: the next piece follows
     pub goes-on : c .number ≡ 0 → (s′ : LockState) → s′ ≡ c .state → So-far t s₀ is ks ds s′ end
     unfolding then-checked
     goes-on z s′ e =
@@ -92,6 +92,6 @@ module _ (w : TreeWords) (s₀ : LockState) (is ks ds : List ℕ) (a : length ks
         let all : checked t s₀ is ks ds ≡ shifted at c = g .ahead ∙ ap (shifted at) (sym same) in
         (ap found-of (sym all), ap (λ v. v .state) (sym all))
 
-    -- the steps so far are at most all
+    -- the steps so far are at most all steps
     pub steps-few : (n : ℕ) → n ≡ c .steps → at + n ≤ length is
     steps-few n e = omega (arith, e, checked-few t s (piece is) (piece ks) (piece ds), piece-long is refl)

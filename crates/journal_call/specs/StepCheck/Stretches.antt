@@ -1,4 +1,4 @@
--- Steps of a piece as the run's loop takes and tells them, against those that are named.
+-- The steps of a piece as the run's loop takes and reports them, compared with the named steps.
 use mathlib.Core.Path.{_≡_}
 use mathlib.Core.Bool.{Bool, true, false, _&&_, not}
 use mathlib.Core.List.{List}
@@ -19,26 +19,26 @@ use Rattle.journal.specs.StepCheck.Answers.{Checked, step-number}
 use Rattle.journal.specs.StepCheck.Laws.{after-first}
 use Rattle.journal_call.specs.declared.step_check.pieces.Found.{Found}
 
--- a lock's state by the arrays that are lent
+-- a lock state with these borrowed arrays
 abbrev pub lent-lock : (tails nexts statuses rows domains peers words : List ℕ) → (ticket grant : ℕ) → (entries tenures longest : List ℕ) → LockState
 lent-lock ts ns vs rs ds ps ws v g es ms ls = lock-state (lent-state ts ns vs rs ds ps ws v g) (counters-in es ms ls)
 
--- beside it, how many steps were found right, and the number that refuses the next one
+-- without the state: how many steps are right, and the number that refuses the next one
 abbrev pub found-of : Checked → Found
 found-of c = record { number = c .number; steps = c .steps }
 
--- a tree that is accepted and a state that a call may be handed
+-- an accepted tree and a state that a call accepts
 pub record Ready (t : Tree) (s : LockState) : Type 0 where
   pub tree : tree-refusal t .number ≡ 0
   pub typed : Typed (s .words)
   pub form : well-formed t (s .words) ≡ true
   pub counts : good-counts t (s .counters) ≡ true
 
--- a thread is not one of so many
+-- the thread at a position is not known
 abbrev pub unknown : (known : ℕ) → (threads : List ℕ) → (position : ℕ) → Bool
 unknown n is j = leb n (getD is j 0)
 
--- so many threads of a piece can be stepped; where a number stops them, it refuses the next one, whatever kind and domain it names
+-- the first threads of a piece can be stepped; if a number stops them, it refuses the next one, whatever kind and domain it names
 pub record Stretch (t : Tree) (s : LockState) (threads : List ℕ) (found : Found) : Type 0 where
   pub within : found .steps ≤ length threads
   pub known : (j : ℕ) → j < found .steps → getD threads j 0 < t .threads
@@ -47,17 +47,19 @@ pub record Stretch (t : Tree) (s : LockState) (threads : List ℕ) (found : Foun
   pub stops : found .number ≢ 0 → found .steps < length threads
   pub refuses : found .number ≢ 0 → (k d : ℕ) → step-number t (after-first t s threads (found .steps)) (getD threads (found .steps) 0) k d ≡ found .number
 
--- a named kind or a named domain is not what the run's loop told of a step: a step's number has its kind in the lowest three bits, and its domain by its row and its thread's home
+-- the named kind is the one that the run's loop reported for the step, in the lowest three bits of its number
 abbrev pub same-kind : (kinds codes : List ℕ) → (position : ℕ) → Bool
 same-kind ks cs j = eqb (getD ks j 0) (getD cs j 0 % 8)
 
+-- the named domain is that of the step, given by the reported row and domain and by the thread's home
 abbrev pub same-domain : (homes threads domains codes : List ℕ) → (position : ℕ) → Bool
 same-domain hs is ds cs j = eqb (getD ds j 0) (row-domain (getD hs (getD is j 0) 0) ((getD cs j 0 / 8) % 16) (getD cs j 0 / 128))
 
+-- the named kind or domain is not the step's
 abbrev pub differs : (homes threads kinds domains codes : List ℕ) → (position : ℕ) → Bool
 differs hs is ks ds cs j = not (same-kind ks cs j && same-domain hs is ds cs j)
 
--- what a comparison asks of the lists
+-- what a comparison requires of the lists
 pub record Comparable (threads kinds domains codes : List ℕ) (count : ℕ) : Type 0 where
   pub threads-long : count ≤ length threads
   pub kinds-long : count ≤ length kinds
@@ -65,7 +67,7 @@ pub record Comparable (threads kinds domains codes : List ℕ) (count : ℕ) : T
   pub codes-long : count ≤ length codes
   pub small : (j : ℕ) → j < count → getD threads j 0 < 256
 
--- a piece: three lists of one length, and room for what is traced and told
+-- a piece: three lists of equal length, and arrays for what is traced and reported
 pub record Piece-fits (threads kinds domains trace codes : List ℕ) : Type 0 where
   pub few : length threads ≤ 1024
   pub kinds-long : length kinds ≡ length threads

@@ -1,4 +1,4 @@
-// Four entries at a time, where four with the same bit map follow each other: a thread alone, a thread that waits, threads that wait in turn. Their sizes are then known beforehand, so that reading one need not wait for the one before.
+// Four entries at a time, if four in a row have the same bit map: one thread alone, a thread that waits, threads that wait in turn. Their sizes are then known in advance, so that reading one does not depend on the one before.
 ghost use mathlib.Core.Path.{_≡_};
 ghost use mathlib.Core.Bool.{true};
 ghost use mathlib.Core.List.{[], _∷_};
@@ -9,7 +9,7 @@ ghost use Rattle.journal_call.specs.Reader.Stretches.{Read-on};
 ghost use Rattle.journal_call.specs.Pieces.Pieces.{All-are, All-below, Fits, Kinds-given};
 use crate::reader::Piece;
 
-// Whether four bytes are one bit map, by a single comparison: byte by byte, each would be a branch that nothing foretells.
+// Whether four bytes are the same bit map, by a single comparison: separate comparisons would be unpredictable branches.
 fn all_are(bits: u8, a: u8, b: u8, c: u8, d: u8) -> bool
     ensures { λ r. ⌜ (r ≡ true → All-are bits a b c d) ⌝ }
 {
@@ -32,7 +32,7 @@ fn all_known(known: u32, a: u16, b: u16, c: u16, d: u16) -> bool
     (d as u32) < known
 }
 
-// Whether so many bytes are left, and room for so many entries.
+// Whether enough bytes are left, and both arrays can take this many more entries.
 fn fits(
     bytes: usize,
     position: usize,
@@ -82,7 +82,7 @@ fn put_kinds(kinds: &mut [u8], count: usize, a: u8, b: u8, c: u8, d: u8)
     kinds[count + 3] = d;
 }
 
-// Four entries of the thread before that name a kind, or four of it that name none.
+// Four entries of the thread before that name a kind, or four of it that do not.
 fn read_same(
     journal: &[u8],
     position: usize,
@@ -159,7 +159,7 @@ fn read_others(
     crate::reader::stopped(count, position, before, 0)
 }
 
-// Whether sixteen entries of two bytes each begin with the bit map that gives a kind alone.
+// Whether sixteen entries of two bytes each have the bit map for a kind only.
 fn kinds_given(journal: &[u8], position: usize) -> bool
     requires { ⌜ position + 34 ≤ length (now journal) ⌝ }
     ensures { λ r. ⌜ (r ≡ true → Kinds-given 16 (now (journal .entry)) position) ⌝ }
@@ -174,7 +174,7 @@ fn kinds_given(journal: &[u8], position: usize) -> bool
     true
 }
 
-// Sixteen entries of the thread before that name a kind, where it moves on alone; else none.
+// Sixteen entries of the thread before that name a kind, as when it moves alone; else none.
 fn read_sixteen(
     journal: &[u8],
     position: usize,
@@ -200,7 +200,7 @@ fn read_sixteen(
     crate::reader::stopped(count + 16, position + 32, before, 0)
 }
 
-// Four such entries into the room from an index on, or none.
+// Four such entries, stored from an index on, or none.
 fn read_four(
     journal: &[u8],
     position: usize,
@@ -217,7 +217,7 @@ fn read_four(
     if known <= (before as u32) {
         return crate::reader::stopped(count, position, before, 0);
     }
-    // Twelve bytes hold four entries of each bit map that is looked for.
+    // Twelve bytes are enough for four entries of each bit map that is tested.
     if fits(
         journal.len(),
         position,
@@ -236,7 +236,7 @@ fn read_four(
     crate::reader::stopped(count, position, before, 0)
 }
 
-// Sixteen such entries where bytes and room are left for them, or none.
+// Sixteen such entries if enough bytes and elements are left, or none.
 fn read_many(
     journal: &[u8],
     position: usize,
@@ -253,7 +253,7 @@ fn read_many(
     if known <= (before as u32) {
         return crate::reader::stopped(count, position, before, 0);
     }
-    // Thirty-four bytes hold sixteen entries of two, and two more, so that the last can be read as any entry is.
+    // Thirty-four bytes are enough for sixteen entries of two bytes and two more bytes, so that the last can be read like any entry.
     if fits(
         journal.len(),
         position,
@@ -268,7 +268,7 @@ fn read_many(
     crate::reader::stopped(count, position, before, 0)
 }
 
-// Entries with one bit map, sixteen or four of them, into the room from an index on, or none. Four are read at one place alone, so that the compiler expands it there.
+// Sixteen or four entries with the same bit map, stored from an index on, or none. Four are read at only one place, so that the compiler inlines it there.
 pub(crate) fn read_alike(
     journal: &[u8],
     position: usize,

@@ -1,4 +1,4 @@
-// Up to thirty-two entries one after another, by a table of sizes: how many bytes an entry has that begins at one of 128 bytes is worked out for all of them beforehand, many at a time. The next position then waits for one look into the table, and not for a bit map and what is made of it.
+// Up to thirty-two consecutive entries, with a table of sizes: the size of an entry that starts at each of 128 bytes is computed for all of them in advance, several at a time. The next position then depends only on one table lookup, not on a bit map and its decoding.
 ghost use mathlib.Core.Path.{_≡_};
 ghost use Prim.Native.Nat.{_+_, _≤_};
 ghost use lib.ListN.{length};
@@ -7,7 +7,7 @@ ghost use Rattle.journal_call.specs.Reader.Stretches.{Read-on, Stopped-b
 ghost use Rattle.journal_call.specs.Pieces.Pieces.{Sizes-from};
 use crate::reader::Piece;
 
-// The bytes of an entry whose bit map a byte is; any number where it is none.
+// The size of an entry with this byte as its bit map; any number if the byte is no bit map.
 fn size_by(byte: u8) -> u8
     ensures { λ r. ⌜ (byte ≤ 3 → r ≡ entry-size byte) ⌝ }
 {
@@ -27,7 +27,7 @@ fn sizes_from(journal: &[u8], position: usize) -> [u8; 128]
     sizes
 }
 
-// Reads entries from a position on into the room from one index on and up to another, or up to the first that 25 or 12 refuses.
+// Reads entries from a position on into the arrays from one index up to another, or up to the first entry that 25 or 12 refuses.
 pub(crate) fn read_block(
     journal: &[u8],
     position: usize,

@@ -1,4 +1,4 @@
-// Named steps piece by piece: the threads of a piece are stepped by the run's loop, and what it tells of each step is compared with what is named.
+// Named steps piece by piece: the threads of a piece are stepped by the run's loop, and what it reports for each step is compared with what is named.
 ghost use mathlib.Core.Path.{_≡_};
 ghost use mathlib.Core.Bool.{cond};
 ghost use Prim.Native.Nat.{_%_, _≤_, _<_};
@@ -18,13 +18,13 @@ use lock::steps::limits;
 use lock::steps::run;
 use model::TreeWords;
 
-// How many steps were found right, and the number that refuses the next one; 0 where there is none.
+// How many steps are right, and the number that refuses the next one; 0 if none does.
 pub(crate) struct Found {
     pub number: u32,
     pub steps: usize,
 }
 
-// The first of some threads that is not one of the tree; how many there are, where all are.
+// The first thread that is not in the tree; the number of threads if all are.
 fn first_unknown(threads: &[u16], known: u32) -> usize
     ensures { λ r. ⌜ Lowest (length (now (threads .entry))) (unknown known (now (threads .entry))) r ⌝ }
 {
@@ -38,7 +38,7 @@ fn first_unknown(threads: &[u16], known: u32) -> usize
     k
 }
 
-// How many threads of a piece can be stepped: those before the first that meets 12 or 19.
+// How many threads of a piece can be stepped: those before the first that 12 or 19 refuses.
 fn stretch_of<'s, 'c>(
     tree: TreeWords,
     tails: &'s [u16; 64],
@@ -95,7 +95,7 @@ fn stretch_of<'s, 'c>(
     }
 }
 
-// The first of some named steps whose kind or domain is not what the run's loop told; how many there are, where none is.
+// The first named step whose kind or domain is not what the run's loop reported; the number of steps if there is none.
 fn first_difference(
     homes: &[u8; 256],
     threads: &[u16],
@@ -122,7 +122,7 @@ fn first_difference(
     k
 }
 
-// The number that refuses a named step, by whether its kind is the step's.
+// The number that refuses a named step, given whether its kind is the step's.
 fn number_of(kind: u16, code: u16) -> u32
     ensures { λ r. ⌜ r ≡ cond (eqb kind (code % 8)) 29 26 ⌝ }
 {
@@ -132,7 +132,7 @@ fn number_of(kind: u16, code: u16) -> u32
     26
 }
 
-// The steps of so many threads, on the arrays that are lent. What each step was is told.
+// The steps of the first threads, on borrowed arrays, each reported.
 fn run_part(
     tree: TreeWords,
     tails: &mut [u16; 64],
@@ -185,7 +185,7 @@ fn run_part(
     );
 }
 
-// A piece of named steps: how many are right, and the number that refuses the next one. The steps that are right are taken on the arrays that are lent: all that can be stepped first, and where one is found wrong, those before it again from the state before the piece.
+// A piece of named steps: how many are right, and the number that refuses the next one. The right steps are taken on the borrowed arrays: first all that can be stepped; if one is wrong, those before it again from the state before the piece.
 fn check_piece(
     tree: TreeWords,
     tails: &mut [u16; 64],
@@ -310,7 +310,7 @@ fn check_piece(
     }
 }
 
-// All named steps, 1,024 of them at a time; each piece goes on from the state that the one before it left, in arrays that are lent to all of them.
+// All named steps, 1,024 at a time; each piece continues from the state that the one before it left, in arrays that all of them borrow.
 pub(crate) fn check_all(
     tree: TreeWords,
     tails: &mut [u16; 64],

@@ -1,4 +1,4 @@
--- WHO MEETS WHAT THE LAWS ASK: calls that have at once all that a law of `kinds` asks of them, where no line of the cases does; docs/WITNESSES.md is the list.
+-- WITNESSES: calls that meet all conditions of a law of `kinds` at once, where no case in the list does; docs/WITNESSES.md lists them.
 use mathlib.Core.Path.{_≡_}
 use mathlib.Core.List.{[], _∷_}
 use lib.ListN.{replicate}
@@ -6,7 +6,7 @@ use Rattle.model.specs.Counters.{fresh-lock}
 use Rattle.model.specs.Cases.Marked.{two-in-root}
 use Rattle.kinds.specs.Answers.{refused-by, kinds-answer}
 
--- TWO CALLS, the second from the state that the first returns, and one on the joined schedule: all three are accepted
+-- TWO CALLS, the second from the state that the first returns, and one call on the joined schedule: all three are accepted
 pub record Calls-meet : Type 0 where
   pub first : refused-by two-in-root fresh-lock (0 ∷ 0 ∷ []) (replicate 2 9) (replicate 4 7) .number ≡ 0
   pub second :

@@ -1,4 +1,4 @@
--- `lock::first_of` meets its contract: 0 for a refused call and for a queue root, else the start, by its two tests.
+-- `lock::first_of` meets its contract: 0 for a refused call and for a queue root, otherwise the start, by its two tests.
 use borrow.Author.Tests.{eq-eqb, ne-eqb}
 use Rattle.lock.proofs.first_of.Statement.{statement}
 use Rattle.lock.proofs.first_of.Tie as tie

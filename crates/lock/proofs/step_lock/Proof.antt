@@ -1,4 +1,4 @@
--- `lock::step_lock` meets its contract: the run of one entry on the state's arrays, which fit what its type fixes.
+-- `lock::step_lock` meets its contract: the run of one entry on the state's arrays, whose lengths the type fixes.
 use mathlib.Core.Path.{refl}
 use Rattle.lock.proofs.steps.Answering.{step-reported}
 use Rattle.lock.proofs.steps.Typing.{typed}

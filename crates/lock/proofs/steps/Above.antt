@@ -13,14 +13,14 @@ use Rattle.model.specs.Counters.{most-counted, count-above, any-above}
 use Rattle.model.proofs.Tests.{any-found, or-right, any-nowhere}
 use Rattle.refusals.specs.OfRuns.Counts.{counters-in}
 
--- an OR is no less than either of its numbers
+-- the OR of two numbers is at least each of them
 pub or-above-left : (a b : ℕ) → a ≤ bitOr a b
 or-above-left a b = omega (arith, or-add-and a b, and-le-r a b)
 
 pub or-above-right : (a b : ℕ) → b ≤ bitOr a b
 or-above-right a b = omega (arith, or-add-and a b, and-le-l a b)
 
--- the numbers passed, and one more, are at most a number that is no less than the last
+-- a bound on the numbers so far and on the next one is a bound on all of them
 pub one-more-below : (vs : List ℕ) (d m n : ℕ) → ((j : ℕ) → j < d → getD vs j 0 ≤ m) → m ≤ n → getD vs d 0 ≤ n → (j : ℕ) → j < d + 1 → getD vs j 0 ≤ n
 one-more-below vs d m n h g l j b = elim (ℕ-discrete j d) [ yes z ↦ rw z l | no z ↦ omega (arith, h j (omega arith)) ]
 

@@ -1,4 +1,4 @@
--- From what the refusals and the run answer to the answers of the calls.
+-- The answers of the calls, from those of the refusals and the run.
 use mathlib.Core.Path.{_≡_, refl, sym, ap, _∙_}
 use mathlib.Core.Bool.{Bool, true, false, cond}
 use mathlib.Core.List.{List, [], _∷_, _++_}
@@ -41,13 +41,13 @@ use Rattle.lock.specs.Steps.Running.{kinds-of, counts-by, trace-front, s
 early-run : (t : Tree) (s : LockState) (is : List ℕ) (room : ℕ) → run-refusal t s is room .number ≡ 0 → first-refusal (run-tests-before-19 t s is room) .number ≡ 0
 early-run t s is room e = ap (λ x. x .number) (early-accepted t s is room (run-facts t s is room e)) ∙ accepted-number
 
--- what is told of a first step
+-- what is reported for the first step
 first-code : (b : List ℕ) (x : Step) (xs : List Step) → 0 < length b → getD (codes-front b (x ∷ xs)) 0 0 ≡ step-code x
 unfolding codes-front
 first-code [] x xs h = absurd (omega arith)
 first-code (c ∷ b) x xs h = refl
 
--- A STEP is refused as a run of its one entry is, with room for it
+-- A STEP is refused like a run of its one entry, with a trace buffer of length 1
 module _ (t : Tree) (i : ℕ) where
   abbrev entry : List Test
   entry = entry-tests t (i ∷ [])
@@ -94,7 +94,7 @@ module _ (t : Tree) (i : ℕ) where
         | no z ↦ first-decides xs zs z ∙ early-refusal s ∙ sym (first-decides ys zs (λ y. z (ap (λ r. r .number) (early-refusal s) ∙ y)))
       ]
 
--- all but the counts of a run's reply, with kind and domain of its first step
+-- a run's reply without the counts, with kind and domain of its first step
 reply-reported :
     (r : model.Refusal) (s : LockState) (xs : List Step) (x : Run) (c : Counters) → x .state ≡ state-after (s .words) xs → (b : Bool) → eqb (r .number) 0 ≡ b →
     (let y = run-reply r s x c in
@@ -103,7 +103,7 @@ unfolding step-reply run-reply
 reply-reported r s xs x c f true e = rw (e, f)
 reply-reported r s xs x c f false e = rw (e, e)
 
--- is a step's reply: a step is a run of its one entry
+-- a step is a run of its one entry, so this is its reply
 pub step-reported :
     (w : TreeWords) (s : LockState) (i : ℕ) (b : List ℕ) → length b ≡ 1 →
     (let y = run-answer w s (i ∷ []) b in let xs = steps (tree-of w) (i ∷ []) (s .words) in
@@ -113,7 +113,7 @@ step-reported w s i b e =
     rw (e, one-refusal (tree-of w) i s)
     (reply-reported (run-refusal (tree-of w) s (i ∷ []) 1) s (steps (tree-of w) (i ∷ []) (s .words)) (run-of (s .words) (steps (tree-of w) (i ∷ []) (s .words))) (counters-after-run (tree-of w) (i ∷ []) s) refl _ refl)
 
--- what is told of a run's first step, by its one number
+-- what is reported for a run's first step, from its number
 pub reported-first :
     (w : TreeWords) (s : LockState) (is : List ℕ) (room : ℕ) → run-refusal (tree-of w) s is room .number ≡ 0 → (codes₀ codes : List ℕ) → length codes₀ ≡ 1 →
     codes ≡ codes-front codes₀ (steps (tree-of w) is (s .words)) →

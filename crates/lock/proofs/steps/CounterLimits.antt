@@ -1,4 +1,4 @@
--- 19 after the other tests of a run: where every schedule has room it refuses nothing, and where they refuse nothing it decides.
+-- 19 after the other tests of a run: if no schedule can reach the limit it refuses nothing, and if the other tests refuse nothing it decides.
 use mathlib.Core.Path.{_≡_, sym, ap, _∙_}
 use mathlib.Core.Bool.{Bool, true, false}
 use mathlib.Core.List.{List, []}
@@ -26,7 +26,7 @@ use Rattle.refusals.proofs.Joining.{first-decides, other-decides}
 use Rattle.refusals.proofs.RunTests.{refusal-words-not, refusal-words-zero}
 use Rattle.lock.specs.Steps.Counting.{Room-answered}
 
--- the tests before 19 with room for the schedule alone
+-- the tests before 19 with a trace buffer just long enough for the schedule
 pub passes-alone : (t : Tree) (s : LockState) (is : List ℕ) (room : ℕ) → first-refusal (run-tests-before-19 t s is room) .number ≡ 0 → first-refusal (run-tests-before-19 t s is (length is)) .number ≡ 0
 passes-alone t s is room e =
     let g = early-facts t s is room e in
@@ -39,7 +39,7 @@ module _ (w : TreeWords) (n : State) (es ns ls is : List ℕ) where
   abbrev s : LockState
   s = lock-state n (counters-in es ns ls)
 
-  -- no counter is then above 2^63
+  -- 19 refuses nothing if no entry brings a counter above 2^63
   none : ((p : ℕ) → p < length is → bad-counter t s is p ≡ false) → record { number = 0; place = 0 } ≡ refusal-words (first-refusal (counter-tests t s is))
   unfolding accepted refusal first-refusal
   none h = sym (ap refusal-words (test-skipped (test 19 (length is) (bad-counter t s is)) [] h))
@@ -65,7 +65,7 @@ module _ (w : TreeWords) (n : State) (es ns ls is : List ℕ) where
     pub is-none : length is ≤ k → record { number = 0; place = 0 } ≡ refusal-words (first-refusal (counter-tests t s is))
     is-none h = none (λ p l. low .passed p (omega arith))
 
-  -- THE WHOLE: the tests before it refuse, or it decides
+  -- THE WHOLE: the tests before 19 refuse, or 19 decides
   module _ (room : ℕ) (r : Refusal) (e : r ≡ refusal-words (first-refusal (run-tests-before-19 t s is room))) where
     pub before-decides : (r .number ≡ 0 → ⊥) → r ≡ refusal-words (run-refusal t s is room)
     unfolding run-refusal run-tests

@@ -1,4 +1,4 @@
--- What the counting of a step asks, and the marks of the threads that watch.
+-- What the counting of a step requires, and the marks of the threads that watch.
 use mathlib.Core.Path.{_≡_, refl, sym, ap, _∙_}
 use mathlib.Core.Bool.{Bool, true, false, _&&_, _||_, not, cond}
 use mathlib.Core.List.{List}
@@ -42,7 +42,7 @@ use Rattle.lock.specs.Steps.Counting.{shows-in, Marked}
 use Rattle.lock.proofs.steps.Taken.{taken-child}
 use Rattle.lock.proofs.steps.Tallying.{Tallied}
 
--- ROOM. Counters that 10 let pass have room for every schedule
+-- ROOM. No schedule makes counters that pass 10 overflow
 module _ (t : Tree) (bits : Sixteen-bit t) (s₀ : LockState) (is : List ℕ) (room : ℕ) (R : Good-run t s₀ is room) (c : Counters) (k : ℕ) (h : k ≤ length is) (g : Tallied t is (s₀ .words) (s₀ .counters) c k) where
   short : length (take k is) ≡ k
   short = length-take-le k is h
@@ -53,11 +53,11 @@ module _ (t : Tree) (bits : Sixteen-bit t) (s₀ : LockState) (is : List ℕ) (r
   pub tenures-room : Room-above (c .tenures)
   tenures-room = record { room = λ d b. let z = ap (λ (x : Counters). getD (x .tenures) d 0) (g .counters-are) in omega (arith, z, tenures-left t bits (s₀ .counters) (take k is) (s₀ .words) d, counts-most t (s₀ .counters) (R .counts) d b .1, short, R .short) }
 
--- a place in row 13 is Raise, and a Raise is in row 13
+-- a Raise is in row 13
 pub raise-row-is : (q : PlaceWords) → place-of q ≢ Invalid → place-of q ≡ Raise → q .row ≡ 13
 raise-row-is q v z = ap (λ (x : PlaceWords). x .row) (sym (words-of-place q v) ∙ ap words-of z)
 
--- a thread that is looked at is one of the tree
+-- a thread that is looked at is a thread of the tree
 pub looked-real : {row : ℕ} {vs : List ℕ} {n v m l j : ℕ} → Looked row vs n v m l → j < l → j < m
 looked-real {row = row} {m = m} {l = l} e h =
     elim (ℕ-discrete row 13) [
@@ -65,7 +65,7 @@ looked-real {row = row} {m = m} {l = l} e h =
       | no z ↦ absurd (omega (arith, e .other z))
     ]
 
--- a raise looks at all threads, or at none where no domain's record holds the ticket
+-- a raise looks at all threads, or at none if no domain's record has the ticket
 looked-cases :
     {row : ℕ} {vs : List ℕ} {n v m l : ℕ} (C : Type 0) → Looked row vs n v m l → row ≡ 13 → (l ≡ m → C) → (l ≡ 0 → ((d : ℕ) → d < n → getD vs (256 + d) 0 ≢ v) → C) → C
 looked-cases {m = m} {l = l} C e r all none =
@@ -103,7 +103,7 @@ module _ (w : TreeWords) (ok : tree-refusal (tree-of w) .number ≡ 0) where
     unfolding any-below
     marked-start bs g = record { room = g .room; marked = g .none }
 
-    -- a thread shows nothing of a domain that the tree has not, nor of one whose record does not hold the ticket
+    -- a thread shows nothing for a domain that is not in the tree, nor for one whose record does not hold the ticket
     shows-none : (d j : ℕ) → j < w .threads → (d < w .domains → getD vs (256 + d) 0 ≢ v) → shows-in (w .domains) (w .parents) (w .homes) vs qs v d j ≡ false
     shows-none d j r n =
         elim (decLt d (w .domains)) [
@@ -118,7 +118,7 @@ module _ (w : TreeWords) (ok : tree-refusal (tree-of w) .number ≡ 0) where
         last a true = and-false a
         last a false = and-false a
 
-    -- where no domain's record holds the ticket, the threads show nothing, so that the marks of none are those of all
+    -- if no domain's record has the ticket, no thread shows anything, so the marks of no threads are those of all
     pub marked-all :
         (bs : List Bool) → ((d : ℕ) → d < w .domains → getD vs (256 + d) 0 ≢ v) → Marked (w .domains) (w .parents) (w .homes) vs qs v 0 bs →
         Marked (w .domains) (w .parents) (w .homes) vs qs v (w .threads) bs
@@ -126,7 +126,7 @@ module _ (w : TreeWords) (ok : tree-refusal (tree-of w) .number ≡ 0) where
     marked-all bs n g =
         record { room = g .room; marked = λ d h. g .marked d h ∙ sym (any-nowhere (w .threads) (shows-in (w .domains) (w .parents) (w .homes) vs qs v d) (λ j r. shows-none d j r (n d))) }
 
-    -- a step that is no raise looks at nobody, and leaves no domain marked; nor does a raise
+    -- no step leaves a domain marked; one that is no raise looks at no thread
     pub marks-cleared :
         (q : PlaceWords) (j l : ℕ) (bs bs′ : List Bool) → Looked (q .row) vs (w .domains) v (w .threads) l → j ≤ l → Marked (w .domains) (w .parents) (w .homes) vs qs v j bs →
         Shown-left q bs bs′ → Clear bs′
@@ -139,7 +139,7 @@ module _ (w : TreeWords) (ok : tree-refusal (tree-of w) .number ≡ 0) where
               rw (left .other z) (record { room = g .room; none = λ d h. g .marked d h ∙ ap (λ k. any-below k (shows-in (w .domains) (w .parents) (w .homes) vs qs v d)) none })
         ]
 
-    -- the marks by all threads that are looked at: none where there are none, and none beyond the tree's domains
+    -- the marks of all threads that are looked at: no mark if there are none, and none beyond the tree's domains
     pub shown-for :
         (row j l : ℕ) (bs : List Bool) → Looked row vs (w .domains) v (w .threads) l → j ≤ l → l ≤ j → Marked (w .domains) (w .parents) (w .homes) vs qs v j bs →
         Shown-for l (w .domains) bs
@@ -210,7 +210,7 @@ module _ (w : TreeWords) (ok : tree-refusal (tree-of w) .number ≡ 0) (i : ℕ)
   unfolding tree-of
   home-is = sym (home-in (w .domains) (w .threads) (w .parents) (w .thresholds) (w .homes) i b)
 
-  -- where the step is a raise, the marks are those of all threads
+  -- if the step is a raise, the marks are those of all threads
   module _ (s : State) (f : Formed (tree-of w) s) (l j : ℕ) (shown : List Bool) where
     pub raise-marked :
         {v : ℕ} → Looked (numbers-at (s .places) i .row) (s .statuses) (w .domains) v (w .threads) l → j ≤ l → l ≤ j → place s i ≡ Raise →

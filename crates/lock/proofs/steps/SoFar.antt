@@ -1,4 +1,4 @@
--- A run under way: what holds at each turn of its loop.
+-- The run's loop: what holds at each turn.
 use mathlib.Core.Path.{_≡_, refl, sym, ap, _∙_}
 use mathlib.Core.Bool.{Bool, true, false, cond}
 use mathlib.Core.List.{List, [], _∷_, _++_, append-nil, append-assoc}
@@ -54,7 +54,7 @@ zero-stay passed-entry e = absurd (omega arith)
 zero-stay crossed-entry e = absurd (omega arith)
 zero-stay leaving e = absurd (omega arith)
 
--- COUNTS by kinds. One step more is counted in
+-- COUNTS by kind, with one more step
 count-kind :
     (k : Kind) (a b c d f g : ℕ) →
     (a + cond (is-kind stay k) 1 0) ∷ (b + cond (is-kind other k) 1 0) ∷ (c + cond (is-kind root-entry k) 1 0) ∷ (d + cond (is-kind passed-entry k) 1 0)
@@ -76,7 +76,7 @@ kinds-next xs x =
     rw (one (is-kind stay), one (is-kind other), one (is-kind root-entry), one (is-kind passed-entry), one (is-kind crossed-entry), one (is-kind leaving))
     (count-kind (x .kind) (how-many (is-kind stay) xs) (how-many (is-kind other) xs) (how-many (is-kind root-entry) xs) (how-many (is-kind passed-entry) xs) (how-many (is-kind crossed-entry) xs) (how-many (is-kind leaving) xs))
 
--- no more of a kind than there are steps
+-- no kind has more steps than there are
 pub at-most : (b : Bool) → cond b 1 0 ≤ 1
 at-most true = omega arith
 at-most false = omega arith
@@ -103,7 +103,7 @@ one-kind passed-entry = refl
 one-kind crossed-entry = refl
 one-kind leaving = refl
 
--- the kinds add up to the steps, and those of entries to the entries
+-- the counts of all kinds add up to the steps, and those of the entry kinds to the entries
 kinds-all : (xs : List Step) → how-many (is-kind stay) xs + how-many (is-kind other) xs + how-many (is-kind root-entry) xs + how-many (is-kind passed-entry) xs + how-many (is-kind crossed-entry) xs + how-many (is-kind leaving) xs ≡ length xs
 unfolding how-many
 kinds-all [] = refl
@@ -113,7 +113,7 @@ pub counts-kinds : (xs : List Step) → counts-by (kinds-of xs) ≡ counts-of xs
 unfolding kinds-of counts-of
 counts-kinds xs = rw (kinds-all xs, entries-all xs)
 
--- THE TRACE: one thread more at the end of what is written
+-- THE TRACE: one more thread at the end of what is written
 front-next :
     (T b : List ℕ) (n i : ℕ) → n ≡ length T → n < length b →
     set (T ++ drop (length T) b) n i ≡ (T ++ (i ∷ [])) ++ drop (length (T ++ (i ∷ []))) b
@@ -149,7 +149,7 @@ thread-at t (i ∷ is) a (suc k) h = thread-at t is (a .1) k (omega arith)
 pub below : (t : Tree) (is : List ℕ) → tree-refusal t .number ≡ 0 → All-threads t is → (k : ℕ) → k < length is → getD is k 0 < 256
 below t is z a k h = omega (arith, accepted t z .few-threads, thread-at t is a k h)
 
--- a step that stays leaves the thread's place, which need not be stored
+-- a step that stays does not change the thread's place, so it need not be stored
 pub stay-placed :
     (t : Tree) (is : List ℕ) (s : State) (k : ℕ) (m : Moved) (left : State) → tree-refusal t .number ≡ 0 → All-threads t is → k < length is → Formed t s →
     Done (row t (getD is k 0) (place s (getD is k 0)) s) (getD is k 0) m left → left .places ≡ s .places → m .kind ≡ 0 →
@@ -198,14 +198,14 @@ module _ (t : Tree) (is b₀ : List ℕ) (s₀ : State) where
         trace-is = refl;
       }
 
-  -- one entry more: the steps so far, then one
+  -- one more entry: the steps so far, then one
   pub next-step : (k : ℕ) → k < length is → first-steps (k + 1) ≡ first-steps k ++ (step t (getD is k 0) (state-after s₀ (first-steps k)) ∷ [])
   unfolding steps
   next-step k h =
       let z : k + 1 ≡ suc k = add-one k in
       rw (z, take-suc is k 0 h) (steps-join t (take k is) (getD is k 0 ∷ []) s₀)
 
-  -- the kind of a step has its number, and no kind has more steps than entries are done
+  -- the kind of a step has a number below 6, and no kind has more steps than there are entries done
   pub kind-room :
       (b : List ℕ) (s : State) (kinds : List ℕ) (entries k : ℕ) (m : Moved) (left : State) → So-far b s kinds entries k →
       Done (row t (getD is k 0) (place s (getD is k 0)) s) (getD is k 0) m left → k < length is → length is ≤ 65536 →

@@ -1,4 +1,4 @@
--- A fresh state by the number at which its counters start.
+-- A fresh state, given the number at which its counters start.
 use mathlib.Core.Path.{_≡_, refl, sym, ap}
 use mathlib.Core.Bool.{Bool, true, false, not, cond}
 use Prim.Native.Nat.{ℕ, _<_}

@@ -1,4 +1,4 @@
--- Kind and domain of a step, by what the run's loop tells of it.
+-- The kind and domain of a step, decoded from the number that the run's loop reports.
 use mathlib.Core.Path.{_≡_, sym, ap, _∙_}
 use mathlib.Core.Bool.{true, _&&_}
 use mathlib.Core.Logic.{_≢_}
@@ -24,7 +24,7 @@ use Rattle.lock.specs.Steps.Running.{step-code}
 use Rattle.rows.proofs.common.RowPlaces.{place-by-row}
 use Rattle.lock.proofs.steps.SoFar.{kind-small}
 
--- what is told of a step is its kind, its row and its domain, each in bits of its own
+-- a step is reported by its kind, its row and its domain, each in bits of its own
 row-small : (p : Place) → words-of p .row < 16
 row-small Idle = omega arith
 row-small (Prep l) = omega arith
@@ -54,9 +54,9 @@ code-domain : (x : Step) → step-code x / 128 ≡ words-of (x .place) .domain
 unfolding step-code
 code-domain x = omega (arith, kind-small (x .kind), row-small (x .place))
 
--- the domain of a step, by the home of its thread and what is told of it
+-- the domain of a step, from the home of its thread and the number that reports it
 module _ (w : TreeWords) (s : State) (i : ℕ) (form : well-formed (tree-of w) s ≡ true) (h : i < tree-of w .threads) (small : i < 256) where
-  -- the thread's place is one of the table's
+  -- the thread's place is in the step table
   place-valid : place s i ≢ Invalid
   unfolding well-formed good-thread
   place-valid =

@@ -1,4 +1,4 @@
--- What one step counts by its words is what the model counts of it: by the place that it is from.
+-- What one step counts from its words is what the model counts for it, by its place before.
 use mathlib.Core.Path.{_≡_, refl, sym, ap, _∙_}
 use mathlib.Core.Bool.{Bool, true, false, _&&_, _||_, not, cond, false≢true}
 use mathlib.Core.List.{List, [], _∷_}
@@ -47,7 +47,7 @@ use Rattle.lock.proofs.steps.Taken.{taken-child}
 use Rattle.lock.proofs.steps.StepEntries.{entries-counted}
 use Rattle.lock.proofs.steps.StepTenures.{Start-of, nobody, of-thread, of-domain, start-added, start-raised, check-added, check-raised, raise-added, raise-raised}
 
--- of the place after a Swap: Link exactly where the tail was not none
+-- the place after a Swap: Link exactly if the tail was not none
 swap-after :
     (t : Tree) (i l : ℕ) (s : State) → Has-room (s .places) i → {x : Row-result} → Branch t i s (Swap l) x →
     eqb (numbers-at (x .state .places) i .row) 3 ≡ not (eqb (tail s l) none)
@@ -68,7 +68,7 @@ draw-kind : (t : Tree) (i : ℕ) (s : State) {x : Row-result} → Branch t i s D
 draw-kind t i s (draw-shown e) = sym (ap not (eq-eqb (s .ticket) (s .grant) e))
 draw-kind t i s (draw-unshown e) = sym (ap not (ne-eqb (s .ticket) (s .grant) e))
 
--- a record that a thread works with, or none, by a test
+-- the record that a thread works with, or none, depending on a test
 module _ (t : Tree) (valid : Accepted t) (m : ℕ) (ps : List ℕ) (same : (e : ℕ) → parents-in m ps .parent e ≡ t .parent e) where
   own-started : (b : Bool) (i l h : ℕ) → i < t .threads → on-path t i l ≡ true → h ≡ t .home i → Start-of (cond b (own-record t i l ∷ []) []) (cond (not b) 0 (taken-in m ps h l))
   unfolding own-record
@@ -91,7 +91,7 @@ module _ (t : Tree) (valid : Accepted t) (m : ℕ) (ps : List ℕ) (same : (e : 
           let n = eqb-false (r - 256) 0 (not-true (eqb (r - 256) 0) (and-both (ltb (r - 256) (t .domains)) (not (eqb (r - 256) 0)) y .1)) in
           of-domain n (ap (λ v. v ∷ []) (omega arith))
 
-  -- a thread that watches with a domain's record
+  -- whether a thread watches with a domain's record
   record-same : (j h d : ℕ) → j < t .threads → h ≡ t .home j → d ≢ 0 → eqb (taken-in m ps h 0) d ≡ eqb (own-record t j 0) (256 + d)
   unfolding own-record
   record-same j h d r e n = rw (taken-child t m ps same j 0 h e) (by (eqb 0 (t .home j)))
@@ -100,7 +100,7 @@ module _ (t : Tree) (valid : Accepted t) (m : ℕ) (ps : List ℕ) (same : (e : 
       by true = ne-eqb 0 d (λ z. n (sym z)) ∙ sym (ne-eqb j (256 + d) (λ z. absurd (omega (arith, valid .few-threads))))
       by false = elim (ℕ-discrete (child t j 0) d) [ yes z ↦ rw (eq-eqb (child t j 0) d z, eq-eqb (256 + child t j 0) (256 + d) (omega arith)) | no z ↦ rw (ne-eqb (child t j 0) d z, ne-eqb (256 + child t j 0) (256 + d) (λ y. z (omega arith))) ]
 
--- a test that does not hang on the number stands before the scan
+-- a test that does not depend on the number comes before the scan
 any-apart : (n : ℕ) (a b : ℕ → Bool) (c : Bool) → any-below n (λ j. a j && (b j && c)) ≡ c && any-below n (λ j. a j && b j)
 unfolding any-below
 any-apart zero a b true = refl
@@ -116,7 +116,7 @@ any-apart (suc n) a b c = rw (any-apart n a b c) (by c (any-below n (λ j. a j &
     by false r true false = refl
     by false r false y = refl
 
--- ONE STEP of a tree that a call names
+-- ONE STEP on the tree of a call
 module _ (w : TreeWords) (ok : tree-refusal (tree-of w) .number ≡ 0) (i : ℕ) (b : i < tree-of w .threads) (s : State) (f : Formed (tree-of w) s) (said : Moved) (left : State) (same : left .places ≡ s .places) (D : Done (row (tree-of w) i (place s i) s) i said left) where
   abbrev t : Tree
   t = tree-of w
@@ -235,7 +235,7 @@ module _ (w : TreeWords) (ok : tree-refusal (tree-of w) .number ≡ 0) (i : ℕ)
     by-place Raise z g m = from-raise z (m z)
     by-place Invalid z g m = absurd (false≢true g)
 
-    -- the marks, where all threads were looked at
+    -- the marks, if all threads have been looked at
     marks :
         Marked (w .domains) (w .parents) (w .homes) (s .statuses) (s .places) (wrap (s .grant + 1)) (w .threads) shown →
         (d : ℕ) → d < 64 → d ≢ 0 → getD shown d false ≡ eqb (status s (256 + d)) (wrap (s .grant + 1)) && is-watched t s (256 + d)

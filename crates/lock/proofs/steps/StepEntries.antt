@@ -1,4 +1,4 @@
--- The entries that one step counts along a thread's path are those that the model counts of it.
+-- The entries that one step counts along a thread's path are those that the model counts.
 use mathlib.Core.Path.{_≡_, refl, sym, ap, _∙_}
 use mathlib.Core.Bool.{Bool, true, false, _&&_, not, cond}
 use mathlib.Core.List.{List, [], _∷_}
@@ -26,12 +26,12 @@ use Rattle.rows.proofs.common.Counts.{set-indexed}
 abbrev number : Bool → ℕ
 number b = cond b 1 0
 
--- from a domain up: one more of each domain that the way up meets, but for the root
+-- from a domain up: one more entry for each domain on the way, except the root
 module _ (t : Tree) (valid : Accepted t) where
   abbrev met : (levels from domain : ℕ) → Bool
   met f c d = not (eqb d 0) && meets f t c d
 
-  -- a higher domain has a lower number, so the way up does not meet a domain again
+  -- a domain higher up has a lower number, so the way up meets no domain twice
   meets-lower : (f c d : ℕ) → c < t .domains → c < d → meets f t c d ≡ false
   unfolding meets
   meets-lower zero c d r l = ne-eqb c d (λ z. absurd (omega arith))
@@ -78,7 +78,7 @@ module _ (t : Tree) (valid : Accepted t) where
           ∙ indexed-twice (λ j v. cond (eqb j c) (v + 1) v) (λ d v. v + number (met g (t .parent c) d)) 0 vs
           ∙ indexed-same _ _ 0 vs (λ d v. one-level g c n r d v)
 
-  -- what the model counts of one step
+  -- what the model counts for one step
   module _ (i : ℕ) (b : i < t .threads) (s : State) where
     entered-counts : (x : Bool) (d : ℕ) → is-entry (step t i s .kind) ≡ x → domain-entries t d (step t i s ∷ []) ≡ cond x (number (met 6 (t .home i) d)) 0
     unfolding domain-entries entries-under under on-path step

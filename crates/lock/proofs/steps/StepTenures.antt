@@ -1,4 +1,4 @@
--- The tenures that one step starts, and the lengths that it tells, are those that the model counts of it.
+-- The tenures that one step starts, and the lengths that it reports, are those that the model counts.
 use mathlib.Core.Path.{_≡_, refl, sym, _∙_}
 use mathlib.Core.Bool.{Bool, true, false, _&&_, cond}
 use mathlib.Core.List.{List, [], _∷_}
@@ -30,7 +30,7 @@ use Rattle.rows.proofs.common.Counts.{is-at, added-indexed, raised-indexed}
 abbrev number : Bool → ℕ
 number b = cond b 1 0
 
--- WHAT A STEP GIVES, by the domain whose tenure it starts: none, a thread's record, or that domain's
+-- WHAT A STEP GIVES, by the domain whose tenure it starts: nothing, a thread's record, or that domain's record
 pub data Start-of (xs : List ℕ) (c : ℕ) : Type 0 where
   nobody : xs ≡ [] → c ≡ 0 → Start-of xs c
   of-thread : (r : ℕ) → r < 256 → xs ≡ r ∷ [] → c ≡ 0 → Start-of xs c
@@ -51,7 +51,7 @@ start-counts xs c (of-domain n e) d =
       | no z ↦ rw (ne-eqb d c z, ne-eqb (256 + d) (256 + c) (λ q. z (omega arith))) (by-test (λ n. n ≡ 0) (eqb d 0) 0 0 (λ y. refl) (λ y. refl))
     ])
 
--- a step from any place but Check, by what it gives
+-- a step from any place except Check, by what it gives
 module _ (t : Tree) (i : ℕ) (s : State) (c : ℕ) (g : Start-of (given-from t i (place s i) s) c) (unchecked : (d : ℕ) → checks-at d (place s i) ≡ false) where
   starts-are : (d : ℕ) → starts t d (step t i s) ≡ number (is-at c d)
   unfolding starts given step
@@ -73,7 +73,7 @@ module _ (t : Tree) (i : ℕ) (s : State) (c : ℕ) (g : Start-of (given-from t 
   unfolding longest-tenure
   start-raised ls = raised-indexed ls c 1 ∙ indexed-same _ _ 0 ls (λ d v. omega (arith, lengths-are d))
 
--- A CHECK: the word that the place after it will grant
+-- A CHECK: the word that the place after it grants
 word-of-row : (q : PlaceWords) → word-to-grant (place-of q) ≡ cond (eqb (q .row) 10) (q .word) 0
 unfolding word-to-grant place-of
 word-of-row q = by (q .row) (q .domain) (q .peer) (q .word)
@@ -123,7 +123,7 @@ module _ (t : Tree) (i l : ℕ) (s : State) (here : place s i ≡ Check l) (n : 
   unfolding longest-tenure
   check-raised ls = raised-indexed ls (cond (eqb (q .row) 10) l 0) (q .word) ∙ indexed-same _ _ 0 ls (λ d v. omega (arith, check-length d))
 
--- A RAISE: the domains that it shows
+-- A RAISE starts the tenures of the marked domains
 module _ (t : Tree) (i : ℕ) (s : State) (here : place s i ≡ Raise) (shown : List Bool)
     (raise-given : given-from t i (place s i) s ≡ shown-members t s (wrap (s .grant + 1)))
     (marked : (d : ℕ) → d < 64 → d ≢ 0 → getD shown d false ≡ eqb (status s (256 + d)) (wrap (s .grant + 1)) && is-watched t s (256 + d)) where

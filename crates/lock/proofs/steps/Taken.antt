@@ -1,4 +1,4 @@
--- The child domain for whose record a thread works, by its words and in the tree.
+-- The child domain whose record a thread uses, by its words and in the tree.
 use mathlib.Core.Path.{_≡_}
 use mathlib.Core.Bool.{cond}
 use mathlib.Core.List.{List}

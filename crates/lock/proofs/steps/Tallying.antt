@@ -1,4 +1,4 @@
--- A run under way: the counters of the domains at each turn of its loop.
+-- The run's loop: the counters of the domains at each turn.
 use mathlib.Core.Path.{_≡_, sym, ap, _∙_}
 use mathlib.Core.List.{List, [], _∷_, _++_}
 use Prim.Native.Nat.{ℕ, _+_, _≤_, _<_}

@@ -1,4 +1,4 @@
--- The run's loop tells what each step was, as long as there is room.
+-- The run's loop reports each step, as long as the buffer is long enough.
 use mathlib.Core.Path.{_≡_, refl, sym, ap, _∙_}
 use mathlib.Core.Bool.{Bool, true, false, cond}
 use mathlib.Core.List.{List, [], _∷_, _++_}
@@ -30,7 +30,7 @@ unfolding codes-front
 codes-none [] = refl
 codes-none (c ∷ bs) = refl
 
--- behind one number more, one index further
+-- one more number in front moves the index by one
 code-after : (c : ℕ) (b : List ℕ) (n v : ℕ) → c ∷ code-stored b n v ≡ code-stored (c ∷ b) (suc n) v
 code-after c b n v = by (ltb n (length b)) refl
   where
@@ -38,7 +38,7 @@ code-after c b n v = by (ltb n (length b)) refl
     by true e = let h = ltb-true n (length b) e in rw (lt-ltb (suc n) (suc (length b)) (omega arith))
     by false e = let h = ltb-false n (length b) e in rw (le-ltb (suc n) (suc (length b)) (omega arith))
 
--- one step more is told at the index after those before it
+-- each step is reported at the index after the steps before it
 pub reported-front-length : (b : List ℕ) (xs : List Step) → length (codes-front b xs) ≡ length b
 unfolding codes-front
 reported-front-length [] xs = refl
@@ -59,7 +59,7 @@ codes-long b n v = by (ltb n (length b))
     by false = refl
 
 module _ (t : Tree) (is : List ℕ) (s₀ : State) (b₀ : List ℕ) where
-  -- the steps of the first k entries are told
+  -- the steps of the first k entries are reported
   pub record Coded (b : List ℕ) (k : ℕ) : Type 0 where
     pub codes-are : b ≡ codes-front b₀ (steps t (take k is) s₀)
     pub codes-room : length b ≡ length b₀
@@ -68,7 +68,7 @@ module _ (t : Tree) (is : List ℕ) (s₀ : State) (b₀ : List ℕ) where
   unfolding steps
   codes-start = record { codes-are = sym (codes-none b₀); codes-room = refl }
 
-  -- one turn of the loop: the step's number is that of its kind and of the words of its place
+  -- one turn of the loop: the number stored for the step is that of its kind and its place
   pub codes-turn :
       (b : List ℕ) (s : State) (k : ℕ) (m : Moved) (left : State) (b′ : List ℕ) → All-threads t is → k < length is → Formed t s → s ≡ state-after s₀ (steps t (take k is) s₀) →
       Done (row t (getD is k 0) (place s (getD is k 0)) s) (getD is k 0) m left → Coded b k →

@@ -77,6 +77,6 @@ module _ (t : Tree) (bits : Sixteen-bit t) (s₀ : LockState) (is : List ℕ) (r
             passed = λ p l. elim (ℕ-discrete p k) [ yes z ↦ rw z (sym tried-count ∙ low) | no z ↦ g .passed p (omega arith) ];
           }
 
--- the same of words, with what their refusal says
+-- the same for the words, given what an accepted run implies
 unfoldable pub Tries : TreeWords → LockState → (schedule : List ℕ) → State → Counters → (k : ℕ) → Type 0
 Tries w s is n c k = (R : Good-run (tree-of w) s is (length is)) → Tried (tree-of w) (sixteen-bit w) s is (length is) R n c k

@@ -1,4 +1,4 @@
--- What each turn of the run's loop needs.
+-- What each turn of the run's loop requires.
 use mathlib.Core.List.{List}
 use Prim.Native.Nat.{ℕ, _<_}
 use lib.ListN.{getD, length}

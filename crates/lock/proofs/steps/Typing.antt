@@ -1,4 +1,4 @@
--- What the type of a state fixes: the room of its arrays, that statuses and words are below 2^64, and the counters below 2^16.
+-- What the type of a state fixes: the lengths of its arrays, that statuses and words are below 2^64, and the counters below 2^16.
 use mathlib.Core.Path.{sym, _∙_}
 use mathlib.Core.List.{List, [], _∷_, map}
 use Prim.Native.Nat.{ℕ, zero, suc, _<_}
@@ -19,7 +19,7 @@ numbers-fit (x ∷ xs) [] z k = absurd z
 numbers-fit (x ∷ xs) (u ∷ us) z zero = z .0 .1
 numbers-fit (x ∷ xs) (u ∷ us) z (suc k) = numbers-fit xs us (z .1) k
 
--- what a call holds of a state that it got
+-- what a call knows about a state that it was passed
 pub typed :
     (s : State) (a b c d e f g : List Val) (u v : List Val) →
     shadow (array-field u16-field 64 .row .own (map (λ v. v) (s .tails)) a) → shadow (array-field u16-field 320 .row .own (map (λ v. v) (s .nexts)) b) →

@@ -1,4 +1,4 @@
--- A run by its steps: what is counted, traced and told.
+-- A run by its steps: what is counted, traced and reported.
 use mathlib.Core.Bool.{cond}
 use mathlib.Core.List.{List, [], _∷_, _++_}
 use Prim.Native.Nat.{ℕ, _+_, _*_}
@@ -14,17 +14,17 @@ use Rattle.model.specs.Steps.{stay, other, root-entry, passed-entry, crossed-en
 use Rattle.model.specs.Runs.{how-many, Run}
 use Rattle.rows.specs.Common.Standing.{is-entry-number}
 
--- how many of some steps are of each kind, in the order of the kinds' numbers
+-- how many steps are of each kind, in the order of the kind numbers
 unfoldable pub kinds-of : List Step → List ℕ
 kinds-of xs =
     how-many (is-kind stay) xs ∷ how-many (is-kind other) xs ∷ how-many (is-kind root-entry) xs ∷ how-many (is-kind passed-entry) xs
     ∷ how-many (is-kind crossed-entry) xs ∷ how-many (is-kind leaving) xs ∷ []
 
--- one step of a kind more
+-- one more step of a kind
 abbrev pub counted : (kinds : List ℕ) → (kind : ℕ) → List ℕ
 counted ks k = set ks k (getD ks k 0 + 1)
 
--- what a run counts, by how many of its steps are of each kind
+-- the counts of a run, given how many of its steps are of each kind
 abbrev pub counts-by : (kinds : List ℕ) → Counts
 counts-by ks =
     record {
@@ -36,7 +36,7 @@ counts-by ks =
       crossed = getD ks 4 0;
     }
 
--- the places after a step: a stay stores none
+-- the places after a step: a stay changes none
 abbrev pub placed : (kind : ℕ) → PlaceArrays → (thread : ℕ) → PlaceWords → PlaceArrays
 placed k q i x = cond (eqb k 0) q (store-numbers q i x)
 
@@ -48,27 +48,28 @@ traced-at b n k i = cond (is-entry-number k) (set b n i) b
 abbrev pub trace-front : List ℕ → Run → List ℕ
 trace-front b x = x .trace ++ drop (length (x .trace)) b
 
--- what a step was, in one number: of its kind, of the row of the place that it came from and of the domain that this place names
+-- a step encoded in one number: its kind, the row of its place before, and the domain that this place names
 abbrev pub code-of : (kind row domain : ℕ) → ℕ
 code-of k r d = k + 8 * r + 128 * d
 
+-- the number of a step
 unfoldable pub step-code : Step → ℕ
 step-code x = code-of (kind-number (x .kind)) (words-of (x .place) .row) (words-of (x .place) .domain)
 
--- a buffer with a number at an index; where it has no such index, as it came
+-- the buffer with a number at an index; unchanged if the index is beyond its end
 abbrev pub code-stored : List ℕ → (at code : ℕ) → List ℕ
 code-stored b n v = cond (ltb n (length b)) (set b n v) b
 
--- the buffer with the numbers of the first steps at its front, as many as it has room for
+-- the buffer with the numbers of the first steps at its front, as many as fit
 unfoldable pub codes-front : List ℕ → List Step → List ℕ
 codes-front [] xs = []
 codes-front (b ∷ bs) [] = b ∷ bs
 codes-front (b ∷ bs) (x ∷ xs) = step-code x ∷ codes-front bs xs
 
--- a fresh state by the number at which its counters start
+-- a fresh state whose ticket counters have this value
 abbrev pub fresh-from : (first : ℕ) → State
 fresh-from v = with-grant v (with-ticket v fresh-words)
 
--- that number, by a refusal's number, the number that names the kind of root, and the start that is given
+-- that value, given the number of a refusal, the number of the kind of root, and the start
 abbrev pub first-number : (number kind start : ℕ) → ℕ
 first-number n k v = cond (eqb n 0) (cond (eqb k 0) 0 v) 0

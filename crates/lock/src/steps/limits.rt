@@ -1,4 +1,4 @@
-// 19: a step would push a counter of a domain past 2^63.
+// 19: a step would raise a counter of a domain above 2^63.
 ghost use mathlib.Core.Path.{_≡_};
 ghost use mathlib.Core.Bool.{true};
 ghost use Prim.Native.Nat.{_≤_};
@@ -15,12 +15,12 @@ use crate::steps::run;
 use model::TreeWords;
 use refusals::Refusal;
 
-// The most that a counter may be, 2^63, and the most that leaves room for the entries of any schedule.
+// The largest value of a counter, 2^63, and the largest value that no schedule can raise above it.
 const MOST: u64 = 9223372036854775808;
 
 const MOST_WITH_ROOM: u64 = 9223372036854710272;
 
-// True only where every schedule has room: no counter is then looked at while it is run. The OR of the counters is no less than each of them, and the walk has no early end, so that many are looked at at once.
+// True only if no schedule can raise a counter above 2^63: then no counter is tested during the run. The OR of the counters is at least each of them, and the loop has no early exit, so that the compiler can test many at once.
 fn has_room<'c>(entries: &'c [u64; 64], tenures: &'c [u64; 64]) -> bool
     ensures { λ r. ⌜ Room-answered (now (entries .entry)) (now (tenures .entry)) r ⌝ }
 {
@@ -53,7 +53,7 @@ fn is_above<'c>(entries: &'c [u64; 64], tenures: &'c [u64; 64], longest: &'c [u6
     false
 }
 
-// The lowest position of a schedule after whose step a counter is above 2^63, found by taking the steps one by one on a copy; the schedule's length where there is none.
+// The lowest position of a schedule after whose step a counter is above 2^63, found by taking the steps one by one on a copy; the schedule's length if there is none.
 fn lowest_above<'s, 'c>(
     tree: TreeWords,
     tails: &'s [u16; 64],
@@ -179,7 +179,7 @@ pub fn lent_counter_refusal_of<'s, 'c>(
     }
 }
 
-// A run meets 4 to 9, 16, 10 to 13 and 19. A step is a run of one entry, with room for one.
+// 4 to 9, 16, 10 to 13 and 19, the tests of a run. A step is a run of one entry with a trace buffer of one element.
 pub fn refusal_of<'s, 'c>(
     tree: TreeWords,
     tails: &'s [u16; 64],

@@ -18,7 +18,7 @@ use model::TreeWords;
 use refusals::of_runs::places;
 use rows::common::counting;
 
-// One step of a kind more, where the steps of each kind are counted.
+// Counts one more step of a kind.
 fn count_in(kinds: &mut [u32; 6], kind: u8)
     requires { ⌜ kind < 6 ⌝ }
     requires { ⌜ getD (now kinds) kind 0 < 65536 ⌝ }
@@ -28,7 +28,7 @@ fn count_in(kinds: &mut [u32; 6], kind: u8)
     kinds[at] = kinds[at] + 1;
 }
 
-// What a run counts, by how many of its steps are of each kind.
+// The counts of a run, given how many of its steps are of each kind.
 pub fn counts_of(kinds: &[u32; 6]) -> Counts
     requires { ⌜ counts-by (now kinds) .steps ≤ 65536 ⌝ }
     ensures { λ r. ⌜ r ≡ counts-by (now (kinds .entry)) ⌝ }
@@ -49,7 +49,7 @@ pub fn counts_of(kinds: &[u32; 6]) -> Counts
     }
 }
 
-// An entry arrives Inside.
+// Whether the kind is an entry, which arrives Inside.
 pub fn is_entry(kind: u8) -> bool
     ensures { λ r. ⌜ r ≡ is-entry-number kind ⌝ }
 {
@@ -62,7 +62,7 @@ pub fn is_entry(kind: u8) -> bool
     kind == model::CROSSED_ENTRY
 }
 
-// An entering thread is written at an index of the trace; the index after it.
+// Writes an entering thread to the trace at an index, and returns the index after it.
 fn trace_at(trace: &mut [u16], at: u32, kind: u8, i: u16) -> u32
     requires { ⌜ at < length (now trace) ⌝ }
     requires { ⌜ at < 65536 ⌝ }
@@ -77,7 +77,7 @@ fn trace_at(trace: &mut [u16], at: u32, kind: u8, i: u16) -> u32
     at
 }
 
-// What a step was, in one number; where no room is lent for it, it is not told.
+// Writes a step as one number, if the buffer is long enough.
 fn put_code(codes: &mut [u16], at: usize, kind: u8, row: u8, domain: u8)
     ensures { λ r. ⌜ now (codes .exit) ≡ code-stored (now (codes .entry)) at (code-of kind row domain) ⌝ }
 {
@@ -87,7 +87,7 @@ fn put_code(codes: &mut [u16], at: usize, kind: u8, row: u8, domain: u8)
     codes[at] = kind as u16 + 8 * (row as u16) + 128 * (domain as u16);
 }
 
-// The domain that a step was at, by its thread's home and what was told of the step.
+// The domain of a step, given its thread's home and the number that reports the step.
 pub fn domain_of_code(home: u8, code: u16) -> u32
     ensures { λ r. ⌜ r ≡ row-domain home ((code / 8) % 16) (code / 128) ⌝ }
 {
@@ -101,7 +101,7 @@ pub fn domain_of_code(home: u8, code: u16) -> u32
     (code / 128) as u32
 }
 
-// The place after a step, stored where the step is no stay.
+// Stores the place after a step unless the step is a stay.
 fn put_place(
     rows: &mut [u8; 256],
     domains: &mut [u8; 256],
@@ -123,7 +123,7 @@ fn put_place(
     words[at] = place.word;
 }
 
-// The steps of a schedule, stored one after another into the arrays that are lent. How many steps are of each kind, what each of the first was, as many as there is room for, and the counters of the domains are written where the caller lends room.
+// The steps of a schedule, stored one after another into the borrowed arrays. Also written: how many steps are of each kind, one number for each step as far as the buffer reaches, and the counters of the domains.
 pub fn run_lent(
     tree: TreeWords,
     tails: &mut [u16; 64],

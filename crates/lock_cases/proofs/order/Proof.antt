@@ -1,4 +1,4 @@
--- `lock_cases::order`. The loop stays within the schedule.
+-- `lock_cases::order` meets its contract: the loop stays within the schedule.
 use mathlib.Core.Path.{_≡_}
 use Prim.Native.Nat.{_≤_, _-_}
 use lib.ListN.{length}

@@ -1,4 +1,4 @@
--- The cases of the file call hold, by computation of what `Computing` shows to be the same.
+-- The cases of the file call hold, by computation of what `Computing` shows to be equal.
 use mathlib.Core.Path.{_≡_, refl}
 use mathlib.Core.Bool.{true}
 use Rattle.model.specs.Scans.{all, any-below, filter-below}
@@ -29,7 +29,7 @@ unfolding same-numbers any-below filter-below read-word tree-of is-ticket is-chi
     outcome-reply outcome-output file-answer output-answer cases
 cases-hold = rw same-reading refl
 
--- each number is met by its file
+-- each number is the answer for its file
 pub numbers-met : Numbers-met
 unfolding same-numbers any-below filter-below read-word tree-of is-ticket is-child is-leaf depth-from depth level meets on-path child-from child own-record
     is-record is-member under place-of is-watch is-idle numbers-at store-numbers fresh-words is-kind is-entry prep-row swap-row link-row wait-row leave-row check-row help-row

@@ -1,4 +1,4 @@
--- COMPUTED CASES, QUICKLY: the file call runs from a fresh lock, which passes 10, and 19 too with a schedule as short as a file's. So a case is computed without them.
+-- FAST COMPUTED CASES: the file call runs from a fresh lock, which passes 10, and also 19, since a file's schedule is short. So a case is computed without these tests.
 use mathlib.Core.Path.{_≡_, refl, ap, _∙_, fun-ext}
 use mathlib.Core.Bool.{Bool, true, false, cond}
 use mathlib.Core.List.{List, [], _∷_, _++_}
@@ -25,7 +25,7 @@ use Rattle.model.proofs.Computing.{last-passes}
 use Rattle.lock_file.specs.Reading.{Reading, refused, described}
 use Rattle.lock_file.specs.FileAnswers.FileAnswers.{Outcome, refused-by, run-outcome, file-run, file-trace, reading-outcome}
 
--- a test that passes changes no answer: one that others follow
+-- a test that passes changes no answer, also if others follow
 passes-between :
     (xs : List Test) (y : Test) (zs : List Test) → ((p : ℕ) → p < y .places → y .bad p ≡ false) →
     first-refusal (xs ++ (y ∷ zs)) ≡ first-refusal (xs ++ zs)
@@ -33,11 +33,11 @@ unfolding first-refusal
 passes-between [] y zs h = test-skipped y zs h
 passes-between (x ∷ xs) y zs h = ap (lowest-bad (x .number) (x .bad) (x .places) 0) (passes-between xs y zs h)
 
--- the room of a trace buffer of the schedule's length
+-- the length of a trace buffer as long as the schedule
 abbrev pub own-room : (schedule : List ℕ) → ℕ
 own-room is = length (replicate {A = ℕ} (length is) 0)
 
--- what refuses a run on a lock of its own, by the other tests
+-- what refuses a run on a lock of its own, by the tests other than 10 and 19
 unfoldable pub quick-refusal : Tree → (schedule : List ℕ) → Refusal
 quick-refusal t is = first-refusal (tree-tests t ++ (schedule-tests t is ++ room-tests is (own-room is)))
 
@@ -48,7 +48,7 @@ same-refusal t bits is short =
     (room-law t bits fresh-lock is (fresh-room (length is) (omega arith)))
     ∙ passes-between (tree-tests t) (test 10 1 (bad-state t fresh-lock)) (schedule-tests t is ++ room-tests is (own-room is)) (λ p l. rw (fresh-well-formed t, fresh-good t))
 
--- the file call's run so; a longer schedule, which no file has, as it stands
+-- the file call's run with those tests; a longer schedule, which no file has, is run with all
 unfoldable pub quick-run : TreeWords → (schedule : List ℕ) → RunReply
 quick-run w is =
     let short = run-reply (quick-refusal (tree-of w) is) fresh-lock (run (tree-of w) is fresh-words) (counters-after-run (tree-of w) is fresh-lock) in
@@ -68,7 +68,7 @@ same-run w is = by (ltb 65536 (length is)) refl
     by true e = rw e
     by false e = rw e (short-run w is (ltb-false 65536 (length is) e))
 
--- what reading comes to, by such a run
+-- the result of reading, with such a run
 unfoldable pub quick-reading : Reading → (room : ℕ) → Outcome
 quick-reading (refused r) room = refused-by r
 quick-reading (described w is) room = run-outcome (quick-run w is) (file-trace w is) room
@@ -78,6 +78,6 @@ unfolding reading-outcome quick-reading
 same-for (refused r) room = refl
 same-for (described w is) room = ap (λ r. run-outcome r (file-trace w is) room) (same-run w is)
 
--- of everything that may be read at once, so that a list of cases is rewritten as a whole
+-- the same for every reading at once, so that a list of cases is rewritten as a whole
 pub same-reading : reading-outcome ≡ quick-reading
 same-reading = fun-ext (λ x. fun-ext (λ room. same-for x room))

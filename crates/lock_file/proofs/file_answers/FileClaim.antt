@@ -32,7 +32,7 @@ take-front : (xs ys : List ℕ) → take (length xs) (xs ++ ys) ≡ xs
 take-front [] ys = refl
 take-front (x ∷ xs) ys = ap (λ zs. x ∷ zs) (take-front xs ys)
 
--- an accepted run's buffer, cut after its entries, is its trace
+-- the trace buffer of an accepted run, up to the number of its entries, is its trace
 front-listed : (b : Bool) (n : ℕ) (x : RunReply) (y : RunReply) (trace rest buffer : List ℕ) →
     eqb n 0 ≡ b → y .number ≡ n → length trace ≡ x .counts .entries → cond b x y .number ≡ 0 → take (cond b x y .counts .entries) (cond b (trace ++ rest) buffer) ≡ trace
 front-listed true n x y trace rest buffer e f l z = rw (← l) (take-front trace rest)

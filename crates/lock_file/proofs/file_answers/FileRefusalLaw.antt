@@ -63,7 +63,7 @@ file-refusal-law bs output =
     by-test (λ x. Met-by x) (ltb 65536 (length bs)) (refused-by (refusal 1 0)) o (λ e. inl (omega arith))
     (λ e. reading-met bs (tree-read bs .reached) (tree-read bs .tree) (length output) (ltb-false 65536 (length bs) e))
 
--- WHICH NUMBERS: by the list, each is one of it
+-- WHICH NUMBERS: each is one of the list
 any-tree : Tree
 any-tree = record { domains = 0; threads = 0; parent = λ d. 0; threshold = λ d. 0; home = λ i. 0; ticket-root = false }
 

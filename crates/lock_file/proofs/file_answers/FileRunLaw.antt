@@ -26,7 +26,7 @@ use Rattle.model.proofs.Laws.Calls.{run-reply-number}
 use Rattle.model.proofs.Laws.Form.{fresh-well-formed}
 use Rattle.lock_file.specs.FileAnswers.FileAnswers.{file-run}
 
--- a number that no failing test has is not answered
+-- a number that no failing test has is not the answer
 unfoldable Never : (number : ℕ) → List Test → Type 0
 Never n [] = Unit {0}
 Never n (x ∷ xs) = ((x .number ≢ n) ⊎ Passes x) × Never n xs
@@ -53,7 +53,7 @@ never-answered n (x ∷ xs) h g =
     by (inl o) r = lowest-other (x .number) n (x .bad) (x .places) 0 (first-refusal xs) o r
     by (inr p) r = rw (lowest-passed (x .number) (x .bad) (x .places) (first-refusal xs) p) r
 
--- a list without a number does not answer it
+-- a number that no test has is not the answer
 other-numbers : (n : ℕ) (xs : List Test) → has-number xs n ≡ false → Never n xs
 unfolding has-number Never
 other-numbers n [] e = tt
@@ -66,7 +66,7 @@ unfolding Never
 never-joined n [] ys g h = h
 never-joined n (x ∷ xs) ys g h = (g .0, never-joined n xs ys (g .1) h)
 
--- a number that the file call's run answers: none, one of the tree's tests, or 12
+-- the numbers that the file call's run answers: 0, those of the tree's tests, and 12
 abbrev pub Run-met : ℕ → Type 0
 Run-met n = (n ≡ 0) ⊎ (((t : Tree) → has-number (tree-tests t) n ≡ true) ⊎ (n ≡ 12))
 
@@ -75,7 +75,7 @@ same-numbers : (t u : Tree) (n : ℕ) → has-number (tree-tests t) n ≡ has-nu
 unfolding has-number tree-tests
 same-numbers t u n = refl
 
--- a run from a fresh lock, with a schedule that is short enough and room for its trace, meets no other: 10, 11, 13 and 19 pass
+-- a run from a fresh lock, with a schedule that is short enough and a trace buffer long enough, is not refused by any other: 10, 11, 13 and 19 pass
 module _ (t : Tree) (bits : Sixteen-bit t) (is : List ℕ) (room : ℕ) (short : length is ≤ 65536) (enough : length is ≤ room) where
   behind : (n : ℕ) → n ≢ 12 → Never n (state-tests t fresh-lock ++ (schedule-tests t is ++ room-tests is room))
   unfolding Never bad-state bad-length bad-room

@@ -1,4 +1,4 @@
--- THE LONGEST LISTING: with room for it 14 is never met.
+-- THE LONGEST LISTING: in a buffer long enough for it, 14 never refuses.
 use mathlib.Core.Path.{_≡_, sym, ap, _∙_}
 use mathlib.Core.Bool.{Bool, true, false, cond, true≢false}
 use mathlib.Core.List.{List, [], _∷_, _++_}
@@ -80,7 +80,7 @@ module _ (w : TreeWords) (is : List ℕ) (short : length is ≤ 32768) where
       let traced : length (run t is fresh-words .trace) ≡ how-many is-entry (steps t is fresh-words) = count-law t is fresh-words .traced in
       omega (arith, length-law (run t is fresh-words .counts) (run t is fresh-words .trace) few small, most, traced, steps-length t is fresh-words)
 
-  -- refused, the number is none of the file call's own
+  -- a refused run does not have the file call's own number, 14
   other : (n : ℕ) → Run-met n → n ≢ 14
   unfolding has-number tree-tests
   other n (inl e) z = omega arith

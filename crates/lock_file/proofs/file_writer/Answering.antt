@@ -1,4 +1,4 @@
--- What the call answers by what it has tested.
+-- What the call answers, given the results of its tests.
 use mathlib.Core.Path.{_≡_, refl}
 use mathlib.Core.List.{List, _++_}
 use mathlib.Core.Logic.{_≢_}

@@ -30,13 +30,13 @@ listed-at zero f k j h = absurd (omega arith)
 listed-at (suc n) f k zero h = let e : k ≡ k + 0 = omega arith in ap f e
 listed-at (suc n) f k (suc j) h = let e : suc k + j ≡ k + suc j = omega arith in listed-at n f (suc k) j (omega arith) ∙ ap f e
 
--- a function that is 0 somewhere has an array that is 0 there
+-- if a function is 0 at an argument, so is its array there
 listed-zero : (n : ℕ) (f : ℕ → ℕ) (k j : ℕ) → f (k + j) ≡ 0 → getD (listed n f k) j 0 ≡ 0
 listed-zero zero f k j z = refl
 listed-zero (suc n) f k zero z = let e : k ≡ k + 0 = omega arith in ap f e ∙ z
 listed-zero (suc n) f k (suc j) z = let e : suc k + j ≡ k + suc j = omega arith in listed-zero n f (suc k) j (ap f e ∙ z)
 
--- the words of a tree, with 0 where it reads none
+-- the words of a tree, 0 where the tree reads none
 abbrev pub words-of : Tree → TreeWords
 words-of t =
     record {
@@ -98,7 +98,7 @@ schedule-described (i ∷ is) =
 holds-listed : (n : ℕ) (f : ℕ → ℕ) (j : ℕ) → Holds (listed n f 0) j (f j)
 holds-listed n f j h = let e : 0 + j ≡ j = omega arith in listed-at n f 0 j (omega (arith, listed-length n f 0)) ∙ ap f e
 
--- where a word is not read it is 0
+-- a word that is not read is 0
 read-outside : (a b : ℕ) (ws : List ℕ) (k : ℕ) → (k < a) ⊎ (b ≤ k) → read-word a b ws k ≡ 0
 unfolding read-word
 read-outside a b ws k h = by (leb a k && ltb k b) refl
@@ -111,7 +111,7 @@ read-outside a b ws k h = by (leb a k && ltb k b) refl
         out (inr x) p q = absurd (omega arith)
     by false e = rw e
 
--- a function that is 0 where it is not read, read off its array
+-- reading a function's array gives the function, if it is 0 outside what is read
 read-listed : (a b n : ℕ) (f : ℕ → ℕ) (k : ℕ) → b ≤ n → ((k < a) ⊎ (b ≤ k) → f k ≡ 0) → read-word a b (listed n f 0) k ≡ f k
 unfolding read-word
 read-listed a b n f k h z = by (leb a k) (ltb k b) refl refl

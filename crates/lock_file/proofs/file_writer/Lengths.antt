@@ -1,4 +1,4 @@
--- How long the parts of a written file are.
+-- The lengths of the parts of a written file.
 use mathlib.Core.Path.{_≡_, refl}
 use mathlib.Core.Bool.{Bool, true, false, cond}
 use mathlib.Core.List.{List, [], _∷_, _++_}
@@ -41,7 +41,7 @@ unfolding written-schedule
 schedule-length [] = refl
 schedule-length (i ∷ is) = let rest = schedule-length is in omega arith
 
--- the parts of a tree, added up
+-- the length of a tree, from the lengths of its parts
 pub tree-length :
     (t : Tree) →
     length (written-tree t)

@@ -1,4 +1,4 @@
--- The longest file: one domain and one thread that steps many times.
+-- The longest file: one domain and one thread with many steps.
 use mathlib.Core.Path.{_≡_, refl, ap, _∙_}
 use mathlib.Core.Bool.{false}
 use Prim.Native.Nat.{ℕ, _+_, _*_, _≤_}

@@ -15,7 +15,7 @@ use Rattle.lock_file.specs.FileWriter.Writing.{low-first-bytes, absent-p
 use Rattle.lock_file.proofs.file_writer.Entries.{thread-same}
 use Rattle.lock_file.proofs.file_writer.Lengths.{domain-length, thread-length, tree-length, file-length}
 
--- an entry is as long as what it leaves out allows
+-- no entry for the same values is shorter than the written one
 domain-least : (p h : ℕ) (xs : List ℕ) → Domain-entry p h xs → length (written-domain p (h % 65536)) ≤ length xs
 unfolding written-domain
 domain-least p h xs no-field = omega arith

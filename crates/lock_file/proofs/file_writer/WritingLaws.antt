@@ -1,4 +1,4 @@
--- THE LAWS of the written file: read back, shortest, the buffer, the circle.
+-- THE LAWS of the written file: read back, shortest, the buffer, and running it.
 use mathlib.Core.Path.{_≡_, refl, sym, ap, _∙_}
 use mathlib.Core.Bool.{Bool, true, false}
 use mathlib.Core.List.{List, _++_}
@@ -35,7 +35,7 @@ use Rattle.lock_file.proofs.file_writer.Answering.{replied, answer-refu
 use Rattle.lock_file.proofs.file_writer.Describing.{words-of, same-tree, describes}
 use Rattle.lock_file.proofs.file_writer.Shortest.{least}
 
--- what an accepted call has tested
+-- what the tests of an accepted call have shown
 record Good-write (t : Tree) (is : List ℕ) (room : ℕ) : Type 0 where
   tree : tree-refusal t .number ≡ 0
   schedule : first-refusal (schedule-tests t is) .number ≡ 0
@@ -66,7 +66,7 @@ write-facts t is room e =
         by-contra (length (written-file t is)) room
         (λ h. let m = ap (λ r. r .number) (write-refusal-law t is room .room-refused z y l h) in omega arith)
 
--- an accepted call: its file stands at the front of the buffer
+-- an accepted call: its file is at the front of the buffer
 module _ (w : TreeWords) (is b : List ℕ) (e : write-answer w is b .number ≡ 0) where
   good : Good-write (tree-of w) is (length b)
   unfolding write-answer write-reply
@@ -167,7 +167,7 @@ buffer-law w is b =
       | no z ↦ rest-refused w is b z
     ]
 
--- THE CIRCLE
+-- WRITTEN, READ AND RUN
 module _ (w : TreeWords) (is : List ℕ) (tree : tree-refusal (tree-of w) .number ≡ 0) (schedule : first-refusal (schedule-tests (tree-of w) is) .number ≡ 0) where
   run-accepted : (trace : List ℕ) → length trace ≡ length is → run-answer w fresh-lock is trace .number ≡ 0
   run-accepted trace long =
@@ -184,7 +184,7 @@ module _ (w : TreeWords) (is : List ℕ) (tree : tree-refusal (tree-of w) .numbe
       let e = answer-by-schedule w tree is (replicate (length is) 0) (length-replicate {A = ℕ} (length is) 0) in
       rw (e, eq-eqb (first-refusal (schedule-tests (tree-of w) is) .number) 0 schedule)
 
--- a run reads the words of a tree through its tree alone
+-- a run depends on the words of a tree only through the tree
 outcome-same : (v w : TreeWords) (is : List ℕ) (room : ℕ) → tree-of v ≡ tree-of w → tree-outcome v is room ≡ tree-outcome w is room
 unfolding file-run file-trace run-answer
 outcome-same v w is room e =

@@ -1,4 +1,4 @@
--- How long a listing is, and at most.
+-- The length of a listing, and its maximum.
 use mathlib.Core.Path.{_≡_, _∙_}
 use mathlib.Core.List.{List, [], _∷_}
 use Prim.Native.Nat.{ℕ, suc, _+_, _*_, _≤_, _<_}
@@ -14,7 +14,7 @@ pub length-listing :
 unfolding listing
 length-listing x is = rw length-append
 
--- one number more after a space
+-- one more number after a space
 spaced-more : (n : ℕ) (ns : List ℕ) → length (spaced (n ∷ ns)) ≡ length (numeral n) + 1 + length (spaced ns)
 unfolding spaced
 spaced-more n ns = length-append (space ∷ numeral n) (spaced ns) ∙ omega arith

@@ -1,4 +1,4 @@
--- NUMERALS: they have digits only, read back, and have no leading zero.
+-- NUMERALS consist of digits, read back as their value, and have no leading zero.
 use mathlib.Core.Path.{_≡_, refl}
 use mathlib.Core.Bool.{Bool, true, false}
 use mathlib.Core.List.{List, [], _∷_, _++_}
@@ -47,7 +47,7 @@ last-after v xs h d =
       no-leading-zero = λ n. rw (List·getD-append xs (digit (v % 10) ∷ []) 0 0 (d .not-empty)) (d .no-leading-zero (λ e. omega arith));
     }
 
--- by as many digits as there are at most
+-- by induction on a bound of the value
 decimal : (k v : ℕ) → v ≤ k → Decimal v (numeral v)
 decimal zero v h = rw (numeral-small v (omega arith)) (one-digit v (omega arith))
 decimal (suc k) v h = by (ltb v 10) refl (λ l. decimal k (v / 10) (omega arith))

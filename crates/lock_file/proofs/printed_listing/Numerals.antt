@@ -1,4 +1,4 @@
--- Decimal numerals: one digit, or a last digit after a numeral; how long they are.
+-- Decimal numerals: one digit, or a numeral followed by a last digit; their lengths.
 use mathlib.Core.Path.{_≡_, refl, _∙_}
 use mathlib.Core.Bool.{Bool, true, false, cond}
 use mathlib.Core.List.{List, [], _∷_, _++_}
@@ -12,7 +12,7 @@ use borrow.Author.Tests.{ltb-true, ltb-false, lt-ltb, le-ltb}
 use Rattle.lock_file.specs.PrintedListing.Listing.{digit, digits, numeral, number-then, trace-lines, spaced, count-numbers, first-line, refusal-line}
 use Rattle.model.specs.declared.Counts.{Counts}
 
--- fuel from the value on makes no difference
+-- fuel of at least the value makes no difference
 digits-same : (k j v : ℕ) → v ≤ k → v ≤ j → digits k v ≡ digits j v
 unfolding digits
 digits-same zero zero v h g = refl
@@ -48,7 +48,7 @@ abbrev pub power-of-ten : ℕ → ℕ
 power-of-ten zero = 1
 power-of-ten (suc k) = 10 * power-of-ten k
 
--- a value below a power of ten has at most as many digits
+-- a value below 10 to the power k + 1 has at most k + 1 digits
 pub length-below : (k v : ℕ) → v < power-of-ten (suc k) → length (numeral v) ≤ suc k
 length-below zero v h = omega (arith, length-small v (omega arith))
 length-below (suc k) v h = by (ltb v 10) refl (length-below k (v / 10) (omega arith))
@@ -72,7 +72,7 @@ pub length-number : (v b : ℕ) → length (number-then v b) ≡ length (numeral
 unfolding number-then
 length-number v b = rw length-append
 
--- spaced numbers from k on: the next, or the line feed alone
+-- the spaced numbers from k on: the next, or only the line feed
 pub spaced-next : (ns : List ℕ) (k : ℕ) → k < length ns → spaced (drop k ns) ≡ (32 ∷ numeral (getD ns k 0)) ++ spaced (drop (k + 1) ns)
 unfolding spaced
 spaced-next ns k h = rw (drop-cons ns k 0 h, add-one)

@@ -1,4 +1,4 @@
--- THE ONE NUMERAL of a value above 0: bytes that are decimal are its numeral.
+-- THE ONLY NUMERAL of a value above 0: decimal bytes with this value are its numeral.
 use mathlib.Core.Path.{_≡_, refl, sym, _∙_, ap}
 use mathlib.Core.List.{List, [], _∷_, _++_}
 use mathlib.Core.Logic.{_≢_}
@@ -11,7 +11,7 @@ use Rattle.lock_file.specs.PrintedListing.ListingLaws.{value-from, Decim
 use Rattle.lock_file.proofs.printed_listing.Numerals.{numeral-small, numeral-large}
 use Rattle.lock_file.proofs.printed_listing.NumeralLaw.{value-last}
 
--- the last of some bytes and those before it
+-- the last byte and those before it
 record Last-of (bytes : List ℕ) : Type 0 where
   pub front : List ℕ
   pub last : ℕ
@@ -21,13 +21,13 @@ last-of : (b : ℕ) (bs : List ℕ) → Last-of (b ∷ bs)
 last-of b [] = record { front = []; last = b; there = refl }
 last-of b (c ∷ cs) = let x = last-of c cs in record { front = b ∷ (x .front); last = x .last; there = ap (λ l. b ∷ l) (x .there) }
 
--- more digits make no smaller value
+-- further digits do not make the value smaller
 at-least : (v : ℕ) (bs : List ℕ) → v ≤ value-from v bs
 unfolding value-from
 at-least v [] = omega arith
 at-least v (b ∷ bs) = let m = at-least (10 * v + (b - 48)) bs in omega arith
 
--- the last digit is what the value leaves by ten
+-- the last digit is the value's remainder by ten
 record Ends (v : ℕ) (front : List ℕ) (last : ℕ) : Type 0 where
   pub by-ten : value-from 0 front ≡ v / 10
   pub is-digit : last ≡ digit (v % 10)
@@ -52,7 +52,7 @@ starts v x xs b n d =
     let more = at-least (10 * 0 + (x - 48)) xs in
     omega arith
 
--- the digits before the last are those of the tenth
+-- the digits before the last are those of a tenth of the value
 shorter : (v x : ℕ) (xs : List ℕ) (b : ℕ) → v ≢ 0 → Decimal v ((x ∷ xs) ++ (b ∷ [])) → Decimal (v / 10) (x ∷ xs)
 shorter v x xs b n d =
     let long = length-append (x ∷ xs) (b ∷ []) in
@@ -78,7 +78,7 @@ by-last v (x ∷ xs) b n d before =
     let tenth = e .by-ten in
     rw (numeral-large v (omega arith), ← before (λ z. omega arith) (shorter v x xs b n d), ← e .is-digit)
 
--- by the value
+-- by induction on a bound of the value
 one : (k v : ℕ) (bytes : List ℕ) → v ≤ k → v ≢ 0 → Decimal v bytes → bytes ≡ numeral v
 one zero v bytes h n d = absurd (n (omega arith))
 one (suc k) v [] h n d = absurd (let l = d .not-empty in omega arith)

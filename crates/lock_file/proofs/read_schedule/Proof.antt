@@ -1,4 +1,4 @@
--- `lock_file::read_schedule` meets its contract: no entries, too little room for them, or all of them at the front.
+-- `lock_file::read_schedule` meets its contract: no entries, a buffer too short for them, or all of them at the front.
 use mathlib.Core.Path.{sym, _∙_}
 use native.Mathlib.Omega.{arith}
 use borrow.Author.Needs.{needs}

@@ -1,4 +1,4 @@
--- A file for each number that the file call meets.
+-- A file for each number that the file call can answer.
 use mathlib.Core.Path.{_≡_}
 use mathlib.Core.List.{List, [], _∷_, _++_, map}
 use Prim.Native.Nat.{ℕ}
@@ -7,6 +7,7 @@ use Rattle.lock_file.specs.Cases.Reading.{pairs, example}
 use Rattle.lock_file.specs.FileAnswers.FileAnswers.{file-answer}
 use Rattle.lock_file.specs.FileAnswers.FileLaws.{met-numbers}
 
+-- the files
 unfoldable pub met-files : List (List ℕ)
 met-files =
     -- the printed example, whose listing has 22 bytes
@@ -29,6 +30,6 @@ met-files =
     ∷ (1 ∷ 1 ∷ 0 ∷ 0 ∷ 9 ∷ 0 ∷ [])
     ∷ (1 ∷ 1 ∷ 0 ∷ 0 ∷ pairs (replicate 20 0)) ∷ []
 
--- with an output buffer of 22 bytes each number is met by its file
+-- with an output buffer of 22 bytes, each file gets its number
 unfoldable pub Numbers-met : Type 0
 Numbers-met = map (λ bytes. file-answer bytes (replicate 22 0) .number) met-files ≡ met-numbers

@@ -1,4 +1,4 @@
--- Cases of numerals, the listing and the line of a refusal, in one list.
+-- Cases of numerals, the listing and the refusal line, in one list.
 use mathlib.Core.Bool.{Bool}
 use mathlib.Core.List.{List, [], _∷_, _++_}
 use Prim.Native.Nat.{ℕ}
@@ -11,13 +11,14 @@ use Rattle.lock_file.specs.PrintedListing.Listing.{numeral, listing, ref
 abbrev pub example-listing : List ℕ
 example-listing = 111 ∷ 107 ∷ 32 ∷ 50 ∷ 50 ∷ 32 ∷ 51 ∷ 32 ∷ 49 ∷ 32 ∷ 50 ∷ 32 ∷ 49 ∷ 32 ∷ 48 ∷ 10 ∷ 48 ∷ 10 ∷ 49 ∷ 10 ∷ 50 ∷ 10 ∷ []
 
--- the printed example's counts
+-- the counts of the printed example
 abbrev pub example-counts : Counts
 example-counts = record { steps = 22; entries = 3; stays = 1; root = 2; passed = 1; crossed = 0 }
 
+-- the cases
 unfoldable pub cases : List Bool
 cases =
-    -- the printed example; in a buffer with room after it, and in one that is a byte too short
+    -- the printed example; in a buffer that is longer, and in one that is one byte too short
     same-numbers (listing example-counts (0 ∷ 1 ∷ 2 ∷ [])) example-listing
     ∷ same-numbers (printed example-listing (replicate 25 7)) (example-listing ++ (7 ∷ 7 ∷ 7 ∷ []))
     ∷ same-numbers (printed example-listing (replicate 21 7)) (replicate 21 7)

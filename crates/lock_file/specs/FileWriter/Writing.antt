@@ -1,4 +1,4 @@
--- Document 02, (v): the lock file of a tree and a schedule, with a bit set only where the value differs from what an absent field means.
+-- Document 02, (v): the lock file of a tree and a schedule. A bit is set only if the value differs from the default of an absent field.
 use mathlib.Core.Bool.{cond}
 use mathlib.Core.List.{List, [], _∷_, _++_}
 use Prim.Native.Nat.{ℕ, zero, suc, _+_, _-_, _/_, _%_}
@@ -9,37 +9,39 @@ use Rattle.model.specs.Trees.{Tree}
 abbrev pub low-first-bytes : (value : ℕ) → List ℕ
 low-first-bytes v = v % 256 ∷ v / 256 ∷ []
 
--- what an absent field means: parent 0, threshold 16, the home of the thread before
+-- THE DEFAULTS of absent fields. The parent is 0
 abbrev pub absent-parent : ℕ
 absent-parent = 0
 
+-- the threshold is 16
 abbrev pub absent-threshold : ℕ
 absent-threshold = 16
 
+-- the home is that of the thread before
 abbrev pub absent-home : (before : ℕ) → ℕ
 absent-home b = b
 
--- a domain's entry: bit 0 for a parent, bit 1 for a threshold, each only where it is not what its absence means
+-- a domain's entry: bit 0 for a parent, bit 1 for a threshold, each only if the value is not the default
 unfoldable pub written-domain : (parent threshold : ℕ) → List ℕ
 written-domain p h =
     cond (eqb p absent-parent) (cond (eqb h absent-threshold) (0 ∷ []) (2 ∷ low-first-bytes h))
     (cond (eqb h absent-threshold) (1 ∷ p ∷ []) (3 ∷ p ∷ low-first-bytes h))
 
--- the entries of the domains from one on, as many as are left
+-- the entries of `left` domains, starting at a given one
 unfoldable pub written-domains : (parent threshold : ℕ → ℕ) → (left domain : ℕ) → List ℕ
 written-domains parent threshold zero d = []
 written-domains parent threshold (suc k) d = written-domain (parent d) (threshold d) ++ written-domains parent threshold k (d + 1)
 
--- a thread's entry: bit 0 for a home, only where it is not what its absence means
+-- a thread's entry: bit 0 for a home, only if it is not the default
 unfoldable pub written-thread : (before home : ℕ) → List ℕ
 written-thread b h = cond (eqb h (absent-home b)) (0 ∷ []) (1 ∷ h ∷ [])
 
--- the entries of the threads from one on, as many as are left, after a thread with the home before
+-- the entries of `left` threads, starting at a given one; the home before it is given
 unfoldable pub written-threads : (home : ℕ → ℕ) → (left thread before : ℕ) → List ℕ
 written-threads home zero i b = []
 written-threads home (suc k) i b = written-thread b (home i) ++ written-threads home k (i + 1) (home i)
 
--- two bytes a schedule entry
+-- two bytes per schedule entry
 unfoldable pub written-schedule : (schedule : List ℕ) → List ℕ
 written-schedule [] = []
 written-schedule (i ∷ is) = low-first-bytes i ++ written-schedule is

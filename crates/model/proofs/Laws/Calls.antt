@@ -1,4 +1,4 @@
--- Accepted calls: what acceptance says of tree, state and schedule, and that this is all it asks.
+-- Accepted calls: what acceptance implies about tree, state and schedule, and that nothing more is required.
 use mathlib.Core.Path.{_≡_, refl, sym, ap, _∙_}
 use mathlib.Core.Bool.{true, false}
 use mathlib.Core.List.{List, [], _∷_, _++_}
@@ -22,14 +22,14 @@ use Rattle.model.specs.Laws.{All-threads, All-pass, Refusal-law}
 use Rattle.model.proofs.Tests.{and-both, by-test}
 use Rattle.model.proofs.Laws.Refusals.{accepted-number, refusal-law, tree-refuses-exactly, step-refuses-exactly, run-refuses-exactly, run-numbered-before-19}
 
--- an accepted step's tree, state and thread, all but 19
+-- an accepted step's tree, state and thread, without 19
 pub record Good-step (t : Tree) (s : LockState) (i : ℕ) : Type 0 where
   pub tree : tree-refusal t .number ≡ 0
   pub form : well-formed t (s .words) ≡ true
   pub counts : good-counts t (s .counters) ≡ true
   pub thread : i < t .threads
 
--- an accepted run's tree, state, schedule and room, all but 19
+-- an accepted run's tree, state, schedule and buffer length, without 19
 pub record Good-run (t : Tree) (s : LockState) (is : List ℕ) (room : ℕ) : Type 0 where
   pub tree : tree-refusal t .number ≡ 0
   pub form : well-formed t (s .words) ≡ true
@@ -38,7 +38,7 @@ pub record Good-run (t : Tree) (s : LockState) (is : List ℕ) (room : ℕ) : Ty
   pub threads : All-threads t is
   pub fits : length is ≤ room
 
--- tests that pass, in two lists
+-- if the tests of joined lists pass, those of both lists pass
 pub pass-split : (xs ys : List Test) → All-pass (xs ++ ys) → All-pass xs × All-pass ys
 unfolding All-pass
 pass-split [] ys h = (tt, h)
@@ -57,7 +57,7 @@ pub tree-passed : (t : Tree) → tree-refusal t .number ≡ 0 → All-pass (tree
 unfolding tree-refusal
 tree-passed t e = tree-refuses-exactly t .passed .0 (tree-refuses-exactly t .zero-accepted e)
 
--- entries that are threads
+-- if no entry is bad, all entries are threads
 all-threads : (t : Tree) (is : List ℕ) → ((p : ℕ) → p < length is → bad-entry t is p ≡ false) → All-threads t is
 unfolding All-threads bad-entry
 all-threads t [] h = tt
@@ -116,7 +116,7 @@ before-passed t s is room g =
     pass-join (tree-tests t) _ (tree-passed t (g .tree))
     (λ p l. rw (g .form, g .counts), (λ p l. le-ltb _ _ (g .short), (no-bad-entry t is (g .threads), (λ p l. le-ltb _ _ (g .fits), tt))))
 
--- all but 19
+-- what acceptance implies, without 19
 pub early-facts : (t : Tree) (s : LockState) (is : List ℕ) (room : ℕ) → first-refusal (run-tests-before-19 t s is room) .number ≡ 0 → Good-run t s is room
 unfolding Refusal-law
 early-facts t s is room e =

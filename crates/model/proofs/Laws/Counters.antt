@@ -1,4 +1,4 @@
--- THE COUNTERS: they add up, change no step, keep their form, and have room.
+-- THE COUNTERS: they add up, change no step, stay well formed, and do not overflow.
 use mathlib.Core.Path.{_≡_, refl, sym, ap, _∙_}
 use mathlib.Core.Bool.{Bool, true, false, _&&_, cond, false≢true, true≢false}
 use mathlib.Core.List.{List, [], _∷_}
@@ -112,7 +112,7 @@ unfolding good-counts good-count
 good-test t c g =
     all-true 64 (good-count t c) (λ d h. rw (fits-test t d _ (g .entries d h), fits-test t d _ (g .tenures d h), fits-test t d _ (g .longest d h), le-leb _ _ (g .within d h)))
 
--- at most 2^63, every one of them
+-- entries and tenures are at most 2^63
 pub counts-most :
     (t : Tree) (c : Counters) → good-counts t c ≡ true → (d : ℕ) → d < 64 → (getD (c .entries) d 0 ≤ most-counted) × (getD (c .tenures) d 0 ≤ most-counted)
 counts-most t c e d h = let g = good-facts t c e in (most (g .entries d h), most (g .tenures d h))
@@ -151,7 +151,7 @@ none-above c f = by (any-below 64 (count-above c)) refl
 is-real : (t : Tree) (d : ℕ) → is-counted t d ≡ false → (d ≢ 0) × (d < t .domains) → ⊥
 is-real t d e r = true≢false (sym (rw (ne-eqb d 0 (r .0), lt-ltb d (t .domains) (r .1))) ∙ e)
 
--- an entry counts for a domain of the thread's path other than the root
+-- an entry counts only for domains of the thread's path other than the root
 module _ (t : Tree) (valid : Accepted t) (i : ℕ) (b : i < t .threads) (s : State) (d : ℕ) where
   entry-real : 1 ≤ domain-entries t d (step t i s ∷ []) → (d ≢ 0) × (d < t .domains)
   unfolding domain-entries entries-under step under
@@ -184,12 +184,12 @@ unfolding longest-tenure steps
 longest-few t d [] s = omega arith
 longest-few t d (i ∷ is) s = omega (arith, tenure-length-few t i s d, longest-few t d is (step t i s .state))
 
--- one step keeps the form, where 19 does not refuse it
+-- one step keeps the form if 19 does not refuse it
 module _ (t : Tree) (valid : Accepted t) (i : ℕ) (b : i < t .threads) (s : State) (g : good-place t i (place s i) ≡ true) (c : Counters) where
   abbrev after : Counters
   after = counters-after t c (step t i s ∷ [])
 
-  -- a counter is kept where what is added to it is of a domain of the tree other than the root
+  -- a counter stays valid if what is added to it is for a domain of the tree other than the root
   kept : (d v v′ : ℕ) → Fits t d v → (((d ≢ 0) × (d < t .domains) → ⊥) → v ≡ 0 → v′ ≡ 0) → v′ ≤ most-counted → Fits t d v′
   kept d v v′ f same low = record { counted = λ y. low; others = λ y. same (is-real t d y) (f .others y) }
 
@@ -240,7 +240,6 @@ unfolding counters-after-run steps
 counters-after-cons t s i is = counters-join t (s .counters) (step t i (s .words) ∷ []) (steps t is (step t i (s .words) .state))
 
 module _ (t : Tree) (ok : tree-refusal t .number ≡ 0) (bits : Sixteen-bit t) where
-  -- one step
   pub one-kept : (i : ℕ) (s : LockState) → i < t .threads → Formed t (s .words) → good-counts t (s .counters) ≡ true → any-above (counters-after t (s .counters) (step t i (s .words) ∷ [])) ≡ false → good-counts t (counters-after t (s .counters) (step t i (s .words) ∷ [])) ≡ true
   one-kept i s b f g low =
       let place-good = well-formed-facts t (s .words) f .places i .used b in
@@ -275,7 +274,7 @@ pub counter-form-law : Counter-form-law
 unfolding Counter-form-law
 counter-form-law t ok bits = record { of-fresh = fresh-good t; of-run = run-kept t ok bits }
 
--- 4. ROOM. What a run leaves, at most
+-- 4. ROOM. How large the counters can be after a run
 module _ (t : Tree) (bits : Sixteen-bit t) (c : Counters) (is : List ℕ) (s : State) where
   abbrev left : Counters
   left = counters-after t c (steps t is s)

@@ -1,4 +1,4 @@
--- EMPTY DOMAINS: a tree is refused by 16 exactly if a domain has no thread under it and nothing else refuses.
+-- EMPTY DOMAINS: 16 refuses a tree exactly if a domain has no thread under it and no earlier test refuses.
 use mathlib.Core.Path.{_≡_, refl, sym, ap, _∙_}
 use mathlib.Core.Bool.{Bool, true, false, true≢false}
 use mathlib.Core.List.{List, [], _∷_, _++_}
@@ -23,7 +23,7 @@ pub under-domain : (t : Tree) (d i : ℕ) → under t (256 + d) i ≡ on-path t 
 unfolding under
 under-domain t d i = let z : 256 + d - 256 ≡ d = omega arith in rw (le-ltb (256 + d) 256 (omega arith), z)
 
--- the test and a thread
+-- the test as a fact: a thread under the domain, or none
 pub has-one : (t : Tree) (d : ℕ) → empty-domain t d ≡ false → Has-thread t d
 unfolding empty-domain
 has-one t d e =
@@ -44,7 +44,7 @@ none-there t d h = by (empty-domain t d) refl
 has-none : (t : Tree) (d : ℕ) → empty-domain t d ≡ true → Has-thread t d → ⊥
 has-none t d e h = true≢false (sym e ∙ one-there t d h)
 
--- TESTS BEHIND OTHERS
+-- TESTS AFTER OTHERS
 refuses-after : (xs ys : List Test) (n p : ℕ) → All-pass xs → Refuses ys n p → Refuses (xs ++ ys) n p
 unfolding All-pass
 refuses-after [] ys n p g r = r
@@ -54,7 +54,7 @@ refuses-before : (xs ys : List Test) (n p : ℕ) → Refuses xs n p → Refuses 
 refuses-before xs ys n p (here x zs k h b l) = here x (zs ++ ys) k h b l
 refuses-before xs ys n p (later x zs m k g r) = later x (zs ++ ys) m k g (refuses-before zs ys m k r)
 
--- a list refuses by its own numbers
+-- a list refuses only with its own numbers
 own-number : (xs : List Test) (n p : ℕ) → Refuses xs n p → has-number xs n ≡ true
 unfolding has-number
 own-number xs n p (here x zs k h b l) = rw (eq-eqb (x .number) (x .number) refl)
@@ -94,7 +94,7 @@ module _ (t : Tree) where
   refused-there g p l b none =
       tree-refuses-exactly t .refused 16 p (omega arith) .1 (refuses-after before (empty-tests t) 16 p g (here _ _ p l b none))
 
-  -- refused by 16, the tests before it pass
+  -- if 16 refuses, the tests before it pass
   passed-before : (p : ℕ) → tree-refusal t ≡ refusal 16 p → All-pass before
   unfolding tree-refusal tree-tests has-number
   passed-before p e = by (outcome before (numbered before refl))

@@ -1,4 +1,4 @@
--- A well-formed state as facts, and what each store asks to keep them.
+-- A well-formed state as facts, and what each store must meet to keep them.
 use mathlib.Core.Path.{_≡_, refl, sym, ap, _∙_}
 use mathlib.Core.Bool.{Bool, true, false, _&&_, _||_, not, false≢true}
 use mathlib.Core.List.{List, [], _∷_}
@@ -27,7 +27,7 @@ use Rattle.model.proofs.Places.{place-of-words, idle-facts, watch-facts
 abbrev pub Sixty-four-bit : (word : ℕ) → Type 0
 Sixty-four-bit v = v < 18446744073709551616
 
--- what a well-formed state has at each index, unused room included
+-- what a well-formed state has at each index, unused slots included
 abbrev pub Good-tail : Tree → (domain value : ℕ) → Type 0
 Good-tail t d v = (v ≡ 0) ⊎ ((is-ticket t d ≡ false) × (is-member t d (v - 1) ≡ true))
 
@@ -51,7 +51,7 @@ pub record Facts (t : Tree) (s : State) : Type 0 where
   pub counters : (t .ticket-root ≡ true) ⊎ ((s .ticket ≡ 0) × (s .grant ≡ 0))
 
 -- FROM THE TEST TO THE FACTS
--- a fact of every element of a list of known length, and of the default, holds at every index
+-- what holds for every element of a list of known length and for the default holds at every index
 everywhere :
     {A : Type 0} (Q : ℕ → A → Type 0) (xs : List A) (n : ℕ) (d : A) → length xs ≡ n → ((j : ℕ) → j < n → Q j (getD xs j d)) →
     ((j : ℕ) → n ≤ j → Q j d) → (j : ℕ) → Q j (getD xs j d)
@@ -159,7 +159,7 @@ unfolding good-counters
 counters-test t s (inl z) = rw z
 counters-test t s (inr m) = or-right (t .ticket-root) _ (rw (eq-eqb (s .ticket) 0 (m .0), eq-eqb (s .grant) 0 (m .1)))
 
--- the default: Idle is good at any index
+-- the default: Idle is good at every index
 pub thread-idle : (t : Tree) (i : ℕ) → Good-thread t i (place-words 0 0 0 0)
 thread-idle t i = record { used = λ h. rw idle-words (idle-good t i); unused = λ h. idle-words }
 
@@ -182,7 +182,7 @@ well-formed-facts t s f =
       counters = counters-fact t s (c .1);
     }
 
--- AND BACK
+-- FROM THE FACTS TO THE TEST
 pub facts-well-formed : (t : Tree) (s : State) → Facts t s → Formed t s
 unfolding well-formed
 facts-well-formed t s k =
@@ -193,7 +193,7 @@ facts-well-formed t s k =
     record { typed = k .typed; form = rw (a, b, c, d, counters-test t s (k .counters)) }
 
 -- STORES
--- a store keeps what holds of every element
+-- a store keeps what holds for every element
 pub set-all :
     {A : Type 0} (Q : ℕ → A → Type 0) (xs : List A) (i : ℕ) (v d : A) → Q i v → ((j : ℕ) → Q j (getD xs j d)) → (j : ℕ) →
     Q j (getD (set xs i v) j d)

@@ -47,7 +47,7 @@ start-counters t v = by (t .ticket-root) refl
     by true e = inl e
     by false e = inr (rw e, rw e)
 
--- a start of 0 is 0 throughout, at both kinds of root
+-- a fresh state with start 0 is 0 throughout, for both kinds of root
 pub fresh-at-zero : (t : Tree) → fresh-state t 0 ≡ fresh-words
 unfolding fresh-state fresh-words
 fresh-at-zero t = by (t .ticket-root)
@@ -98,12 +98,12 @@ one-more n = omega arith
 abbrev Kept : Tree → Row-result → Type 0
 Kept t x = Facts t (x .state)
 
--- Invalid is nowhere good
+-- Invalid is never good
 pub not-invalid : (t : Tree) (i : ℕ) (p : Place) → good-place t i p ≡ true → p ≢ Invalid
 unfolding good-place
 not-invalid t i p g e = false≢true (rw e at g)
 
--- a place that is good, with a word that fits, and not Watch
+-- a good place other than Watch, with a word that fits
 abbrev Fits : Tree → (thread : ℕ) → Place → Type 0
 Fits t i p = (good-place t i p ≡ true) × (Sixty-four-bit (words-of p .word)) × (is-watch p ≡ false)
 
@@ -147,7 +147,7 @@ module _ (t : Tree) (b : Sixteen-bit t) (valid : Accepted t) (i : ℕ) (h : i < 
         let e = member-owner t valid l I (own-record-member t valid i h l o) in
         rw e at (some-next t I (next s I) (k .nexts I) n)
 
-    -- a record of a domain with a queue is watched by nobody
+    -- no thread watches a record of a domain with a queue
     unwatched :
         (l r v : ℕ) → is-ticket t l ≡ false → is-member t l r ≡ true → (j : ℕ) → j < t .threads → place s j ≡ Watch → own-record t j 0 ≡ r → v ≤ 65535
     unfolding good-place
@@ -156,7 +156,7 @@ module _ (t : Tree) (b : Sixteen-bit t) (valid : Accepted t) (i : ℕ) (h : i < 
         let there = own-record-member t valid j hj 0 (on-path-root t valid j hj) in
         absurd (queue-lower t l n root (member-once t valid l 0 r m (rw e at there)))
 
-    -- a status of a record of such a domain
+    -- a status is stored to a record of such a domain
     marked : (l r v : ℕ) → is-ticket t l ≡ false → is-member t l r ≡ true → Sixty-four-bit v → Facts t (with-status r v s)
     marked l r v n m f = status-keeps t s k r v (member-record t valid l r m) f (unwatched l r v n m)
 
@@ -166,7 +166,7 @@ module _ (t : Tree) (b : Sixteen-bit t) (valid : Accepted t) (i : ℕ) (h : i < 
     unfolding good-place is-watch
     grant-fits l w o q n f = (rw (queue-yes t i l o q, successor l o n), f, refl)
 
-    -- the own record of a domain with a queue, prepared with a word
+    -- the thread's record at a domain with a queue is prepared with a word
     prepared-keeps : (l v : ℕ) → on-path t i l ≡ true → is-ticket t l ≡ false → Sixty-four-bit v → Kept t (prep-with t i l v s)
     unfolding good-place is-watch
     prepared-keeps l v o q f =
@@ -175,14 +175,14 @@ module _ (t : Tree) (b : Sixteen-bit t) (valid : Accepted t) (i : ℕ) (h : i < 
         let c = next-keeps t _ a I none (inl refl) in
         placed c (Swap l) (queue-yes t i l o q, omega arith, refl)
 
-    -- the own record as the tail, with a status
+    -- the thread's record gets a status and becomes the tail
     swapped-in : (l v : ℕ) → on-path t i l ≡ true → is-ticket t l ≡ false → Sixty-four-bit v → Facts t (with-tail l (own-record t i l + 1) (with-status (own-record t i l) v s))
     swapped-in l v o q f =
         let I = own-record t i l in
         let m = own-record-member t valid i h l o in
         tail-keeps t _ (marked l I v q m f) l (I + 1) (inr (q, rw (one-more I) m))
 
-    -- about to grant the successor a word
+    -- the thread is about to grant its successor a word
     grant-next : (l w : ℕ) → on-path t i l ≡ true → is-ticket t l ≡ false → next s (own-record t i l) ≢ 0 → Sixty-four-bit w → Kept t (about-to-grant t i s l w)
     grant-next l w o q n f = placed k (Grant l (next s (own-record t i l) - 1) w) (grant-fits l w o q n f)
 

@@ -1,4 +1,4 @@
--- What a step gives: at most once to a record, and only to a member's; and the length that it tells.
+-- What a step gives: at most once to a record, and only to a member's record; and the length that it reports.
 use mathlib.Core.Path.{_≡_, refl, ap}
 use mathlib.Core.Bool.{Bool, true, false, _&&_, not, cond, false≢true}
 use mathlib.Core.List.{List, [], _∷_, _++_, append-nil}
@@ -28,14 +28,14 @@ use Rattle.model.proofs.Trees.Records.{own-record-member, member-record
 use Rattle.model.proofs.Trees.Tickets.{queue-facts}
 use Rattle.model.proofs.Counted.{filter-occurs}
 
--- what a step gives is what it grants or shows, or takes at once; of a row by its place
+-- a step gives the records that it grants or shows, and one that it takes at once; here for a row, by its place
 abbrev given-by : Tree → (thread : ℕ) → Place → Row-result → List ℕ
 given-by t i p x = ended-in (x .standing) ++ taken-from t (step-from t i p x) p
 
 abbrev pub given-from : Tree → (thread : ℕ) → Place → State → List ℕ
 given-from t i p s = given-by t i p (row t i p s)
 
--- the record of a Swap that finds none, and of a draw that enters
+-- the record of a Swap that finds the queue empty, and of a draw that enters
 abbrev pub swap-given : Tree → (thread domain : ℕ) → State → List ℕ
 swap-given t i l s = cond (eqb (tail s l) none) (own-record t i l ∷ []) []
 
@@ -131,7 +131,7 @@ pub starts-few : (t : Tree) (i : ℕ) (s : State) (d : ℕ) → starts t d (step
 unfolding starts given step
 starts-few t i s d = by-test (λ n. n ≤ 1) (eqb d 0) 0 (occurrences (256 + d) (given-from t i (place s i) s)) (λ e. omega arith) (λ e. rw (gives t i (place s i) s) (given-few t i (place s i) s (256 + d)))
 
--- ONLY TO A MEMBER'S RECORD, of a step of a thread of the tree from a good place
+-- ONLY TO A MEMBER'S RECORD, if a thread of the tree steps from a good place
 record Member-of-some (t : Tree) (m : ℕ) : Type 0 where
   domain : ℕ
   member : is-member t domain m ≡ true
@@ -189,7 +189,7 @@ module _ (t : Tree) (valid : Accepted t) where
       let e′ : ltb d (t .domains) && not (eqb d 0) ≡ true = rw (le-ltb (256 + d) 256 (omega arith), z) at e in
       ltb-true d (t .domains) (and-both (ltb d (t .domains)) (not (eqb d 0)) e′ .0)
 
-  -- so a tenure starts of a domain of the tree other than the root
+  -- so tenures start only for domains of the tree other than the root
   pub starts-real : (i : ℕ) → i < t .threads → (s : State) → good-place t i (place s i) ≡ true → (d : ℕ) → 1 ≤ starts t d (step t i s) → (d ≢ 0) × (d < t .domains)
   unfolding starts given step
   starts-real i b s g d h = by (eqb d 0) refl h
@@ -232,13 +232,13 @@ numbers-word x = by (fits x)
     by true = shaped-word (x .row) (x .domain) (x .peer) (x .word)
     by false = omega arith
 
--- a stored number, or 0 where there is no room
+-- a stored number, or 0 beyond the array
 stored-most : (l : List ℕ) (i v : ℕ) → getD (set l i v) i 0 ≤ v
 stored-most [] i v = omega arith
 stored-most (x ∷ xs) zero v = omega arith
 stored-most (x ∷ xs) (suc i) v = stored-most xs i v
 
--- THE LENGTH THAT A STEP TELLS. The word that a stored place will grant is the place's, or none where there is no such thread
+-- THE REPORTED LENGTH. The word that a stored place will grant is the place's, or none if there is no such thread
 stored-word : (i : ℕ) (p : Place) (s : State) → word-to-grant (place (with-place i p s) i) ≤ word-to-grant p
 unfolding numbers-at store-numbers
 stored-word i p s =
@@ -259,7 +259,7 @@ unfolding word-to-grant
 check-word {t} {i} {l} {s} (check-passes _ less n) = omega (arith, stored-word i (Grant l (next s (own-record t i l) - 1) (status s (own-record t i l) + 1)) s)
 check-word {t} {i} {l} {s} (check-releases _ e) = omega (arith, stored-word i (release-place t (t .parent l)) s, release-word-none t (t .parent l))
 
--- the length that a Check at the domain tells
+-- the length that a Check at the domain reports
 abbrev pub checked-length : (domain : ℕ) → Place → (after : State) → (thread : ℕ) → ℕ
 checked-length d p n i = cond (checks-at d p) (word-to-grant (place n i)) 0
 
@@ -300,13 +300,13 @@ checks-real t valid i b p g d e =
 started-one : (n : ℕ) → cond (eqb n 0) 0 1 ≤ 1
 started-one n = by-test (λ v. v ≤ 1) (eqb n 0) 0 1 (λ e. omega arith) (λ e. omega arith)
 
--- a step tells at most 1, or the threshold
+-- a step reports at most the larger of 1 and the threshold
 pub tenure-length-few : (t : Tree) (i : ℕ) (s : State) (d : ℕ) → tenure-length t d (step t i s) ≤ max 1 (t .threshold d)
 unfolding tenure-length step
 tenure-length-few t i s d = omega (arith, started-one (starts t d (step t i s)), checked-within t i (place s i) s d)
 
 module _ (t : Tree) (valid : Accepted t) (i : ℕ) (b : i < t .threads) (s : State) (g : good-place t i (place s i) ≡ true) (d : ℕ) where
-  -- and of a domain of the tree at most its threshold
+  -- from a good place it reports at most the threshold
   pub tenure-length-within : tenure-length t d (step t i s) ≤ t .threshold d
   unfolding tenure-length step
   tenure-length-within = by (eqb (starts t d (step t i s)) 0) refl
@@ -318,7 +318,7 @@ module _ (t : Tree) (valid : Accepted t) (i : ℕ) (b : i < t .threads) (s : Sta
           let real = starts-real t valid i b s g d (omega arith) in
           omega (arith, checked-within t i (place s i) s d, valid .threshold-some d (omega (arith, real .0)) (real .1))
 
-  -- of the root, and of what is no domain of the tree, nothing
+  -- it reports no length for the root, nor for a number that is no domain of the tree
   pub tenure-length-real : 1 ≤ tenure-length t d (step t i s) → (d ≢ 0) × (d < t .domains)
   unfolding tenure-length step
   tenure-length-real h = by (eqb (starts t d (step t i s)) 0) (checks-at d (place s i)) refl refl h

@@ -1,4 +1,4 @@
--- KINDS. A stay changes nothing, and only a stay; an entry arrives Inside; where root entries, passed entries and crossed entries come from.
+-- KINDS. A stay changes nothing, and only a stay does so; an entry arrives Inside; where root, passed and crossed entries come from.
 use mathlib.Core.Path.{_≡_, refl, sym, ap, _∙_}
 use mathlib.Core.Bool.{Bool, true, false, _||_, not, false≢true, true≢false}
 use mathlib.Core.Logic.{_≢_}
@@ -35,7 +35,7 @@ moves-to p q f =
     let both = or-neither (eqb (words-of q .row) (words-of p .row)) (eqb (words-of q .row) 5) f in
     (λ e. eqb-false _ _ (both .0) (ap (λ x. words-of x .row) e), λ e. eqb-false _ _ (both .1) (ap (λ x. words-of x .row) e))
 
--- what a step of a thread from a place comes to
+-- the result of a step of a thread from a place
 pub data Outcome (t : Tree) (s : State) (i : ℕ) (p : Place) (x : Row-result) : Type 0 where
   stayed : x .kind ≡ stay → x .state ≡ s → p ≢ Inside → Outcome t s i p x
   moved : (q : Place) → x .kind ≡ other → place (x .state) i ≡ q → Moves-to p q → p ≢ Inside → Outcome t s i p x
@@ -49,7 +49,7 @@ module _ (t : Tree) (valid : Accepted t) (i : ℕ) (h : i < t .threads) (s : Sta
   abbrev Of : Place → Row-result → Type 0
   Of p x = Outcome t s i p x
 
-  -- the stores of a row leave the places alone but for the thread's own
+  -- the stores of a row change no place except the thread's own
   stored : (q : Place) → place (with-place i q s) i ≡ q
   stored q = place-stored i q s (k .typed .places-room, omega (arith, valid .few-threads))
 

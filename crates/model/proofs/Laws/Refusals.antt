@@ -1,4 +1,4 @@
--- REFUSALS. Number n at place p exactly if every earlier test passes, p is bad and none below p is.
+-- REFUSALS. The answer is number n at place p exactly if every earlier test passes, p is bad and no lower place is.
 use mathlib.Core.Path.{_≡_, refl, sym, ap, _∙_}
 use mathlib.Core.Bool.{Bool, true, false}
 use mathlib.Core.List.{List, [], _∷_}
@@ -13,7 +13,7 @@ use Rattle.model.specs.Refusals.{Refusal, refusal, accepted, Test, lowes
 use Rattle.model.specs.Laws.{Refuses, here, later, All-pass, Numbered, Refuses-exactly, Refusal-law, Call-refusal-law}
 use Rattle.model.proofs.Refusing.{test-skipped, numbered}
 
--- the lowest bad place p of those that are looked at is the answer
+-- the answer is the lowest bad place p among those tested
 pub lowest-hit :
     (n : ℕ) (f : ℕ → Bool) (k p j : ℕ) (r : Refusal) → j < k → f (p + j) ≡ true → ((q : ℕ) → q < j → f (p + q) ≡ false) →
     lowest-bad n f k p r ≡ refusal n (p + j)
@@ -53,7 +53,7 @@ test-hit x xs l =
     (λ q h. rw (z q) (l .none-below q h)) in
     rw (z (l .place)) at hit
 
--- both directions, and the answers that are left
+-- from refusals to answers; and every list of tests passes or refuses
 refuses-answer : (xs : List Test) (n p : ℕ) → Refuses xs n p → first-refusal xs ≡ refusal n p
 refuses-answer xs n p (here x ys k h b l) = test-hit x ys (record { place = k; within = h; bad = b; none-below = l })
 refuses-answer xs n p (later x ys m k g r) = test-skipped x ys g ∙ refuses-answer ys m k r
@@ -80,7 +80,7 @@ outcome (x ∷ xs) h =
       | inr l ↦ refuses (x .number) (l .place) (h .0) (here x xs (l .place) (l .within) (l .bad) (l .none-below))
     ]
 
--- an answer by its parts
+-- the number and the place of an answer
 number-of : (n p : ℕ) → refusal n p .number ≡ n
 unfolding refusal
 number-of n p = refl
@@ -122,7 +122,7 @@ refusal-law xs h =
       zero-accepted = λ e. pass-answer xs (passed-so xs o e);
     }
 
--- THE CALLS' TESTS are numbered, so the law speaks of what each call meets
+-- THE CALLS' TESTS are numbered, so the law applies to each call
 pub tree-numbered : (t : Tree) → Numbered (tree-tests t)
 unfolding has-number tree-tests
 tree-numbered t = numbered (tree-tests t) refl

@@ -1,4 +1,4 @@
--- RUNS. A run equals its steps one after another, and its counts add up.
+-- RUNS. A run equals its steps in sequence, and its counts add up.
 use mathlib.Core.Path.{_≡_, refl, ap, _∙_}
 use mathlib.Core.Bool.{Bool, true, false, cond}
 use mathlib.Core.List.{List, [], _∷_, _++_, append-assoc}
@@ -34,7 +34,7 @@ steps-drop t zero is s = refl
 steps-drop t (suc k) [] s = refl
 steps-drop t (suc k) (i ∷ is) s = steps-drop t k is (step t i s .state)
 
--- WHAT IS COUNTED of steps after steps
+-- COUNTS OF JOINED LISTS OF STEPS
 pub state-after-join : (s : State) (xs ys : List Step) → state-after s (xs ++ ys) ≡ state-after (state-after s xs) ys
 unfolding state-after
 state-after-join s [] ys = refl
@@ -55,7 +55,7 @@ unfolding entries-under
 entries-under-join t q [] ys = omega arith
 entries-under-join t q (x ∷ xs) ys = omega (arith, entries-under-join t q xs ys)
 
--- what some steps come to, joined
+-- the run of joined steps
 pub run-of-join : (s : State) (xs ys : List Step) → run-of s (xs ++ ys) ≡ then-run (run-of s xs) (run-of (state-after s xs) ys)
 unfolding run-of then-run counts-of add-counts
 run-of-join s xs ys =

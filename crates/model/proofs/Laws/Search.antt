@@ -1,4 +1,4 @@
--- The search for a child on a path: what it finds, by index of the path, and its laws.
+-- The search for a child on a path: its result, by index of the path, and its laws.
 use mathlib.Core.Path.{_≡_, refl, sym, ap, _∙_}
 use mathlib.Core.Bool.{true, false, true≢false}
 use mathlib.Core.Logic.{_≢_, _⊎_, inl, inr}
@@ -31,7 +31,7 @@ pub another-parent-at-the-child : Another-parent-at-the-child
 unfolding Another-parent-at-the-child with-parent six-levels tree padded count-up search search-from tree-of read-word
 another-parent-at-the-child = refl
 
--- THE SAME CHILD, whatever was looked at before
+-- THE SAME CHILD, however many domains were read before
 pub same-child-from : (k : ℕ) (t : Tree) (l c n : ℕ) → search-from k t l c n .child ≡ child-from k t l c
 unfolding search-from child-from
 same-child-from zero t l c n = refl
@@ -53,11 +53,11 @@ same-found : {c d m n : ℕ} → c ≡ d → m ≡ n → found c m ≡ found d n
 same-found e f = rw (e, f)
 
 module _ (t : Tree) (valid : Accepted t) (i : ℕ) (h : i < t .threads) where
-  -- another tree has the parents of the path's domains up to index k
+  -- another tree has the same parents of the path's domains up to index k
   abbrev Agrees : (k : ℕ) → Tree → Type 0
   Agrees k u = (m : ℕ) → m ≤ k → u .parent (ancestor t i m) ≡ t .parent (ancestor t i m)
 
-  -- ABOVE HOME. From index j on, the search in such a tree ends at index k and has looked at the domains between, both among them
+  -- ABOVE HOME. From index j, the search in such a tree ends at index k and has read the domains from j to k
   leaves :
       (u : Tree) (f j k n : ℕ) → j ≤ k → k < height t i → k < j + f → Agrees k u →
       search-from f u (ancestor t i (suc k)) (ancestor t i j) n ≡ found (ancestor t i k) (n + suc (k - j))
@@ -105,7 +105,7 @@ module _ (t : Tree) (valid : Accepted t) (i : ℕ) (h : i < t .threads) where
         not-beyond = λ u s. leaves-home u k b (s .home) (agrees k b u (rw z at s)) ∙ sym z;
       }
 
-  -- ANOTHER SEARCH that leaves at the child: its child is the path's too, and what it looked at follows
+  -- ANOTHER SEARCH that ends at the child finds the same child and has read as many domains
   only-at : (look : Tree → (thread domain : ℕ) → Found) (k : ℕ) → k < height t i → Leaves-at-child look t i (ancestor t i (suc k)) → look t i (ancestor t i (suc k)) ≡ search t i (ancestor t i (suc k))
   unfolding height
   only-at look k b s =
@@ -128,7 +128,7 @@ module _ (t : Tree) (valid : Accepted t) (i : ℕ) (h : i < t .threads) where
       go zero b q = absurd (n (sym q ∙ ancestor-home t i))
       go (suc k) b q = rw (← q) (leaves-at k b)
 
-  -- NO CHILD. A domain that is no parent on the path: from index j on, the search ends at the root
+  -- NO CHILD. If the domain is no parent on the path, the search from index j ends at the root
   ends :
       (l : ℕ) → ((k : ℕ) → k < height t i → ancestor t i (suc k) ≢ l) → (f j n : ℕ) → j ≤ height t i → height t i < j + f →
       search-from f t l (ancestor t i j) n ≡ found 0 (n + suc (height t i - j))

@@ -1,4 +1,4 @@
--- What a step says: the domain it was at, and kinds that make a run's counts.
+-- What a step reports: its domain, and the kinds that make up a run's counts.
 use mathlib.Core.Path.{_≡_, refl, sym, ap, _∙_}
 use mathlib.Core.Bool.{true, false, not, cond, false≢true}
 use mathlib.Core.List.{List, [], _∷_}
@@ -33,7 +33,7 @@ use Rattle.model.proofs.Laws.Runs.{entries-all}
 use Rattle.model.proofs.Laws.Calls.{Counts-pass, step-accepted, run-facts, run-counted, run-reply-number}
 use Rattle.model.proofs.Laws.Counters.{one-kept, count-first, count-later}
 
--- THE DOMAIN. Where a place names a domain, it is the number in its words
+-- THE DOMAIN. If a place names a domain, it is the number in its words
 named : (h : ℕ) (p : Place) → p ≢ Idle → p ≢ Inside → place-domain h p ≡ words-of p .domain ⊎ (p ≡ Invalid)
 named h Idle a b = absurd (a refl)
 named h (Prep l) a b = inl refl
@@ -83,7 +83,7 @@ domain-law t i s ok h f =
       path = good-domain t valid i h (place s i) good;
     }
 
--- THE KINDS that steps say, by their numbers
+-- THE KINDS that steps report, by their numbers
 unfoldable numbers : List Step → List ℕ
 numbers [] = []
 numbers (x ∷ xs) = kind-number (x .kind) ∷ numbers xs

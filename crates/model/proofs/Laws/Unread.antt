@@ -1,4 +1,4 @@
--- Words that are not read tell no trees apart.
+-- Words that are not read make no difference to the tree.
 use mathlib.Core.Path.{_≡_, refl, ap, fun-ext}
 use mathlib.Core.Bool.{Bool, true, false, _&&_, cond}
 use mathlib.Core.List.{List}
@@ -19,7 +19,7 @@ read-alike first end xs ys k h = by (leb first k && ltb k end) refl
     by true e = let both = and-both (leb first k) (ltb k end) e in rw (h (leb-true _ _ (both .0)) (ltb-true _ _ (both .1)))
     by false e = rw e
 
--- two numbers that are 0 alike
+-- two numbers of which both or neither is 0
 same-test : (m n : ℕ) → (m ≡ 0 → n ≡ 0) → (n ≡ 0 → m ≡ 0) → eqb m 0 ≡ eqb n 0
 same-test m n f g = by (eqb m 0) refl
   where

@@ -1,4 +1,4 @@
--- WORDS. In states reached from fresh: statuses of members of domains other than the root, and the words that Grant writes there.
+-- WORDS. In states reached from fresh: the statuses of members of domains other than the root, and the words that Grant writes there.
 use mathlib.Core.Path.{_≡_, refl, sym, _∙_}
 use mathlib.Core.Bool.{true}
 use mathlib.Core.List.{List}
@@ -67,7 +67,7 @@ fresh-good-words t v =
       room = fresh-room;
     }
 
--- the stores: tails, nexts and counters are free
+-- the stores; tails, nexts and counters may have any value
 module _ (t : Tree) (s : State) (k : Good-words t s) where
   place-store : (i : ℕ) (p : Place) → i < 256 → Good-grant t p → Good-words t (with-place i p s)
   place-store i p h f =
@@ -125,24 +125,24 @@ module _ (t : Tree) (valid : Accepted t) (i : ℕ) (h : i < t .threads) where
   placed : {n : State} → Good-words t n → (p : Place) → Good-grant t p → Good-words t (with-place i p n)
   placed {n} k p f = place-store t n k i p (omega (arith, valid .few-threads)) f
 
-  -- the own status set to 1 where a domain other than the root is won
+  -- the own status is set to 1 when a domain other than the root is acquired
   started : {n : State} → Good-words t n → (l : ℕ) → on-path t i l ≡ true → Good-words t (with-status (own-record t i l) cohort-start n)
   started {n} a l o = status-store t n a (own-record t i l) cohort-start (own-word l cohort-start o (start-word l o))
 
   module _ (s : State) (k : Good-words t s) where
-    -- the own record of a domain, prepared with a word
+    -- the thread's record at a domain is prepared with a word
     prepared-keeps : (l v : ℕ) → on-path t i l ≡ true → (l ≢ 0 → Good-word t l v) → Kept t (prep-with t i l v s)
     unfolding Good-grant
     prepared-keeps l v o f =
         let a = status-store t s k (own-record t i l) v (own-word l v o f) in
         placed (next-store t _ a (own-record t i l) none) (Swap l) tt
 
-    -- about to grant the successor a word
+    -- the thread is about to grant its successor a word
     grant-next : (l v : ℕ) → (l ≢ 0 → Good-word t l v) → Kept t (about-to-grant t i s l v)
     unfolding Good-grant
     grant-next l v f = placed k (Grant l (next s (own-record t i l) - 1) v) f
 
-    -- a ticket is drawn at the root alone
+    -- a ticket is drawn only at the root
     drawn-keeps : Good-words t (drawn t i s)
     drawn-keeps =
         let marked = status-store t s k (own-record t i 0) (s .ticket) (own-word 0 (s .ticket) (on-path-root t valid i h) (λ n. absurd (n refl))) in

@@ -24,11 +24,11 @@ pub record Accepted (t : Tree) : Type 0 where
   pub home-real : (i : ℕ) → i < t .threads → t .home i < t .domains
   pub home-leaf : (i : ℕ) → i < t .threads → is-leaf t (t .home i) ≡ true
 
--- a test that starts 'but for 0' fails at d above 0: its rest fails
+-- if a test that excludes 0 fails at d above 0, the rest of it fails
 pub but-zero : (d : ℕ) (b : Bool) → not (eqb d 0) && b ≡ false → 0 < d → b ≡ false
 but-zero d b e h = let z = ne-eqb d 0 (omega arith) in rw z at e
 
--- where 4 to 9 refuse nothing
+-- a tree that 4 to 9 do not refuse
 pub accepted-before : (t : Tree) → first-refusal (tests-before-16 t) .number ≡ 0 → Accepted t
 unfolding bad-domains bad-threads bad-parent too-deep no-threshold bad-home
 accepted-before t e =

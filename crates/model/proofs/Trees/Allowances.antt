@@ -20,7 +20,7 @@ allowance-of-domain : (t : Tree) (d : ℕ) → allowance t (256 + d) ≡ domain-
 unfolding allowance
 allowance-of-domain t d = let z : 256 + d - 256 ≡ d = omega arith in rw (le-ltb (256 + d) 256 (omega arith), z)
 
--- a leaf has the threshold; any other domain the threshold times the largest of its children
+-- the allowance of a leaf is its threshold; that of any other domain is its threshold times the largest of its children
 at-leaf : (f : ℕ) (t : Tree) (d : ℕ) → is-leaf t d ≡ true → domain-allowance f t d ≡ t .threshold d
 unfolding domain-allowance
 at-leaf zero t d e = refl
@@ -32,7 +32,7 @@ at-inner :
 unfolding domain-allowance
 at-inner f t d e = rw e
 
--- the largest of the children goes by the children alone
+-- the largest allowance of the children depends only on the children
 children-same :
     (t : Tree) (d : ℕ) (f g : ℕ → ℕ) → ((c : ℕ) → 0 < c → c < t .domains → t .parent c ≡ d → f c ≡ g c) →
     largest-below (t .domains) (λ c. cond (is-child t d c) (f c) 0) ≡ largest-below (t .domains) (λ c. cond (is-child t d c) (g c) 0)

@@ -1,11 +1,11 @@
--- A thread's path by index: 0 is its home, its height the index of the root.
+-- A thread's path by index: 0 is its home, the height is the index of the root.
 use mathlib.Core.Bool.{cond}
 use Prim.Native.Nat.{ℕ, zero, suc, _+_}
 use lib.Dec.{eqb}
 use Rattle.model.specs.Scans.{largest-below}
 use Rattle.model.specs.Trees.{Tree, is-child, is-leaf, depth, allowance}
 
--- the parent; of the root, itself
+-- the parent; for the root, the root itself
 unfoldable pub above : Tree → (domain : ℕ) → ℕ
 above t d = cond (eqb d 0) 0 (t .parent d)
 

@@ -1,4 +1,4 @@
--- A thread's path by index: it falls strictly from its home to the root, and its domains and indices correspond one to one.
+-- A thread's path by index: numbers strictly decrease from its home to the root, and its domains and indices correspond one to one.
 use mathlib.Core.Path.{_≡_, refl, sym, ap, _∙_}
 use mathlib.Core.Bool.{true, not}
 use mathlib.Core.Logic.{inl, inr}
@@ -32,7 +32,7 @@ ancestor-home t i = refl
 pub ancestor-parent : (t : Tree) (i k : ℕ) → 0 < ancestor t i k → t .parent (ancestor t i k) ≡ ancestor t i (suc k)
 ancestor-parent t i k h = sym (above-parent t (ancestor t i k) h) ∙ sym (ancestor-suc t i k)
 
--- equal domains have equal rests of their paths
+-- paths that meet are the same from there up
 pub ancestor-merge : (t : Tree) (i j k l n : ℕ) → ancestor t i k ≡ ancestor t j l → ancestor t i (n + k) ≡ ancestor t j (n + l)
 ancestor-merge t i j k l zero e = let p : 0 + k ≡ k = omega arith in let q : 0 + l ≡ l = omega arith in rw (p, q) e
 ancestor-merge t i j k l (suc n) e =
@@ -50,7 +50,7 @@ pub depth-step : (f : ℕ) (t : Tree) (d : ℕ) → 0 < d → depth-from (suc f)
 unfolding depth-from
 depth-step f t d h = rw (ne-eqb d 0 (omega arith))
 
--- where each parent has a lower number, any fuel that is not below the domain's number gives the same depth
+-- if each parent has a lower number, any fuel that is not below the domain's number gives the same depth
 module _ (t : Tree) (low : (d : ℕ) → 0 < d → d < t .domains → t .parent d < d) where
   depth-fuel : (f g d : ℕ) → d < t .domains → d ≤ f → d ≤ g → depth-from f t d ≡ depth-from g t d
   depth-fuel zero g d s a b = let z : d ≡ 0 = omega arith in depth-root 0 t d z ∙ sym (depth-root g t d z)
@@ -64,7 +64,7 @@ module _ (t : Tree) (low : (d : ℕ) → 0 < d → d < t .domains → t .parent 
             rw (depth-step f t d p, depth-step g t d p, depth-fuel f g (t .parent d) (omega arith) (omega arith) (omega arith))
       ]
 
-  -- one deeper than its parent
+  -- a domain is one deeper than its parent
   pub deeper-by-one : (d : ℕ) → 0 < d → d < t .domains → depth t d ≡ suc (depth t (t .parent d))
   unfolding depth
   deeper-by-one d h s =
@@ -105,7 +105,7 @@ module _ (t : Tree) (valid : Accepted t) (i : ℕ) (h : i < t .threads) where
             rw (ancestor-suc, above-parent t (ancestor t i k) (omega arith)) (omega arith)
       ]
 
-  -- the depth falls by one with each step, and the domain with it
+  -- each step up decreases the depth by one, and the domain's number
   pub ancestor-depth : (k : ℕ) → k ≤ height t i → depth t (ancestor t i k) + k ≡ height t i
   unfolding height
   ancestor-depth zero l = rw ancestor-home (omega arith)
@@ -136,7 +136,7 @@ module _ (t : Tree) (valid : Accepted t) (i : ℕ) (h : i < t .threads) where
         | no n ↦ let one = depth-child t valid (ancestor t i (height t i)) (omega arith) real in absurd (omega arith)
       ]
 
-  -- the root is at the height and nowhere below it
+  -- the root is at index height and at no lower index
   pub ancestor-not-root : (k : ℕ) → k ≤ height t i → 0 < ancestor t i k → k < height t i
   ancestor-not-root k l p = elim (ℕ-discrete k (height t i)) [ yes z ↦ absurd (omega (arith, ap (ancestor t i) z, ancestor-root)) | no z ↦ omega arith ]
 
@@ -151,7 +151,7 @@ module _ (t : Tree) (valid : Accepted t) (i : ℕ) (h : i < t .threads) where
       let low = valid .parent-lower (ancestor t i k) (ancestor-inner k l) (ancestor-real k) in
       omega (arith, ancestor-parent-of k l)
 
-  -- strictly, over any distance
+  -- numbers decrease strictly over any distance
   pub ancestor-strict : (j k : ℕ) → j < k → k ≤ height t i → ancestor t i k < ancestor t i j
   ancestor-strict j zero a b = absurd (omega arith)
   ancestor-strict j (suc k) a b =
@@ -221,7 +221,7 @@ module _ (t : Tree) (valid : Accepted t) (i : ℕ) (h : i < t .threads) where
             rw (ne-eqb k 0 z) (ne-eqb (ancestor t i k) (t .home i) (omega (arith, ancestor-home t i)))
       ]
 
-  -- a path has its home, the root, and with a domain its parent
+  -- a path contains its home, the root, and the parent of each of its domains
   pub on-path-home : on-path t i (t .home i) ≡ true
   on-path-home = rw ancestor-home at (on-path-at 0 (omega arith))
 

@@ -1,4 +1,4 @@
--- A tree's parents and homes: where a word is read, it is the array's.
+-- A tree's parents and homes: a word that is read is the array's.
 use mathlib.Core.Path.{_≡_, refl}
 use mathlib.Core.List.{List}
 use Prim.Native.Nat.{ℕ, _≤_, _<_}
@@ -31,7 +31,7 @@ module _ (w : TreeWords) where
   unfolding tree-of
   threads-read = refl
 
--- an accepted tree is within the room
+-- an accepted tree fits into the arrays
 module _ (w : TreeWords) (ok : tree-refusal (tree-of w) .number ≡ 0) where
   pub few-domains : w .domains ≤ 64
   unfolding tree-of

@@ -20,7 +20,7 @@ minus-256 c = omega arith
 domain-record : (c : ℕ) → ltb (256 + c) 256 ≡ false
 domain-record c = le-ltb (256 + c) 256 (omega arith)
 
--- a member is a thread that lives there, or a domain that hangs there
+-- a member is a thread whose home is there, or a child domain
 pub data Member (t : Tree) (d : ℕ) : ℕ → Type 0 where
   a-thread : (i : ℕ) → i < t .threads → t .home i ≡ d → Member t d i
   a-domain : (c : ℕ) → 0 < c → c < t .domains → t .parent c ≡ d → Member t d (256 + c)
@@ -48,7 +48,7 @@ pub member-thread : (t : Tree) → Accepted t → (d i : ℕ) → i < t .threads
 unfolding is-member
 member-thread t valid d i h e = rw (lt-ltb i 256 (omega arith), lt-ltb i (t .threads) h, eq-eqb (t .home i) d e)
 
--- a member owns one record, of one domain of the tree; and each record is a member's of its owner's domain
+-- a member has one record and belongs to one domain of the tree; each record belongs to a member of its owner's domain
 module _ (t : Tree) (valid : Accepted t) where
   pub member-owner : (d r : ℕ) → is-member t d r ≡ true → owner-domain t r ≡ d
   unfolding owner-domain
@@ -152,7 +152,7 @@ module _ (t : Tree) (valid : Accepted t) (i : ℕ) (h : i < t .threads) where
             with-record = record-suc t i k ∙ ap (λ n. 256 + n) (o .there);
           }
 
-  -- by domain, where a state is handed in: the thread's record there is a member's, and the child is on the path
+  -- by domain: the thread's record there is a member's, and the child is on the path
   pub works-at : (d : ℕ) → on-path t i d ≡ true → Works t i d (own-record t i d)
   works-at d e =
       let o = path-index t valid i h d e in

@@ -29,7 +29,7 @@ pub ticket-none : (t : Tree) (d : ℕ) → t .ticket-root ≡ false → is-ticke
 unfolding is-ticket
 ticket-none t d e = rw e
 
--- where the root is a ticket lock, a domain with a queue is another
+-- if the root is a ticket lock, a domain with a queue is another domain
 pub queue-lower : (t : Tree) (d : ℕ) → is-ticket t d ≡ false → t .ticket-root ≡ true → d ≢ 0
 queue-lower t d n e z = false≢true (sym n ∙ ticket-yes t d e z)
 

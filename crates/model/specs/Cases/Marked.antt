@@ -1,4 +1,4 @@
--- Document 01, "Ladder of cases": those marked *, Inside in unused room, a case on three levels, and steps with their whole states, in one table; and an allowance that is reached.
+-- The cases marked * in document 01, "Ladder of cases", with Inside in an unused slot, a case with three levels, and steps with their whole states, in one table; and an allowance that is reached.
 use mathlib.Core.Bool.{Bool, true, false, _&&_}
 use mathlib.Core.List.{List, [], _∷_, _++_}
 use Prim.Native.Nat.{ℕ, zero, suc, _-_}
@@ -19,14 +19,15 @@ use Rattle.model.specs.Runs.{steps, state-after, begun, ended, entries-u
 use Rattle.model.specs.Counters.{lock-state, fresh-counters}
 use Rattle.model.specs.Answers.{no-counts, fresh-answer, step-answer, run-answer, trace-answer}
 
--- INPUTS. A tree by its numbers of domains and threads, its parents, thresholds and homes; the room after them is 0
+-- INPUTS. A list filled up with 0 to a given length
 unfoldable pub padded : (room : ℕ) → List ℕ → List ℕ
 padded n xs = xs ++ replicate (n - length xs) 0
 
+-- a tree with a queue root, given by its numbers of domains and threads, its parents, thresholds and homes
 unfoldable pub tree : (domains threads : ℕ) → (parents thresholds homes : List ℕ) → TreeWords
 tree d t ps hs is = record { domains = d; threads = t; parents = padded 64 ps; thresholds = padded 64 hs; homes = padded 256 is; «ticket_root» = 0 }
 
--- the same with a ticket lock at its root
+-- the same tree with a ticket root
 unfoldable pub at-ticket-root : TreeWords → TreeWords
 at-ticket-root w =
     record {
@@ -38,7 +39,7 @@ at-ticket-root w =
       «ticket_root» = 1;
     }
 
--- as many numbers from one on, each one more
+-- consecutive numbers, as many as given
 unfoldable pub count-up : (from many : ℕ) → List ℕ
 count-up k zero = []
 count-up k (suc n) = k ∷ count-up (suc k) n
@@ -50,33 +51,35 @@ pub record Expected : Type 0 where
   pub counts : Counts
   pub trace : List ℕ
 
+-- accepted, with these counts and this trace
 unfoldable pub ok : (steps entries stays root passed crossed : ℕ) → (trace : List ℕ) → Expected
 ok a b c d e f tr = record { number = 0; place = 0; counts = record { steps = a; entries = b; stays = c; root = d; passed = e; crossed = f }; trace = tr }
 
+-- refused, with this number and place
 unfoldable pub refused : (number place : ℕ) → Expected
 refused n p = record { number = n; place = p; counts = no-counts; trace = [] }
 
--- accepted, with nothing counted
+-- accepted, with all counts 0
 unfoldable pub passes : Expected
 passes = ok 0 0 0 0 0 0 []
 
--- THE TABLE'S LINES. The states that they hand in are the words of a lock, whose counters are fresh: CounterCases.antt has those of the counters. What a fresh call of a tree, a step in a state, and a run in a state with a trace buffer as long as the schedule are expected to answer
+-- THE TABLE'S LINES: what a fresh call, a step from a state, and a run from a state are expected to answer. The trace buffer is as long as the schedule. All counters are fresh; Counters.antt has the cases with other counters
 pub data Case : Type 0 where
-  -- a fresh call that is given a start, where none is taken: the state is 0 throughout
+  -- a fresh call with a start that is not used: the state is 0 throughout
   fresh-call : TreeWords → Expected → Case
-  -- an accepted fresh call with a start, and what both counters are then
+  -- an accepted fresh call with a start, and the value of both ticket counters after it
   fresh-starts : TreeWords → (start counters : ℕ) → Case
-  -- a refused step, which tells kind 0 and domain 0
+  -- a refused step; its kind and domain are 0
   step-call : TreeWords → State → (thread : ℕ) → Expected → Case
-  -- an accepted step, with the number of its kind, the domain it was at and the whole state after it
+  -- an accepted step: the number of its kind, its domain and the whole state after it
   step-gives : TreeWords → (before : State) → (thread : ℕ) → (kind domain : ℕ) → (after : State) → Case
   run-call : TreeWords → State → (schedule : List ℕ) → Expected → Case
 
--- the tree of document 01's input: two domains below the root, thresholds 2 and 16; two threads in the first, one in the second
+-- the tree of document 01's printed input: two domains below the root, thresholds 2 and 16; two threads in the first, one in the second
 unfoldable pub two-homes : TreeWords
 two-homes = tree 3 3 (0 ∷ 0 ∷ 0 ∷ []) (0 ∷ 2 ∷ 16 ∷ []) (1 ∷ 1 ∷ 2 ∷ [])
 
--- its 22 entries but for the last
+-- the 22 entries of that input without the last
 unfoldable pub first-entries : List ℕ
 first-entries = 0 ∷ 0 ∷ 0 ∷ 0 ∷ 1 ∷ 1 ∷ 1 ∷ 1 ∷ 0 ∷ 0 ∷ 0 ∷ 1 ∷ 2 ∷ 2 ∷ 2 ∷ 2 ∷ 2 ∷ 1 ∷ 1 ∷ 1 ∷ 1 ∷ []
 
@@ -92,14 +95,15 @@ two-in-root = tree 1 2 (0 ∷ []) (0 ∷ []) (0 ∷ 0 ∷ [])
 unfoldable pub one-home : TreeWords
 one-home = tree 2 2 (0 ∷ 0 ∷ []) (0 ∷ 2 ∷ []) (1 ∷ 1 ∷ [])
 
--- three levels: below the root domain 1, threshold 2; below it two domains with a thread each, thresholds 1
+-- three levels: domain 1 below the root, threshold 2; below it two domains with one thread each, thresholds 1
 unfoldable pub three-levels : TreeWords
 three-levels = tree 4 2 (0 ∷ 0 ∷ 1 ∷ 1 ∷ []) (0 ∷ 2 ∷ 1 ∷ 1 ∷ []) (2 ∷ 3 ∷ [])
 
--- four levels: below the root domain 1, threshold 2; below it two domains, and below each a domain with a thread, thresholds 1
+-- four levels: domain 1 below the root, threshold 2; below it two domains, thresholds 1, and below each of them a domain with one thread, threshold 1
 unfoldable pub four-levels : TreeWords
 four-levels = tree 6 2 (0 ∷ 0 ∷ 1 ∷ 2 ∷ 1 ∷ 4 ∷ []) (0 ∷ 2 ∷ 1 ∷ 1 ∷ 1 ∷ 1 ∷ []) (3 ∷ 5 ∷ [])
 
+-- the cases
 unfoldable pub cases : List Case
 cases =
     -- the 22 entries
@@ -120,15 +124,15 @@ cases =
     ∷ fresh-call (tree 7 1 (0 ∷ count-up 0 6) (0 ∷ replicate 6 1) (6 ∷ [])) (refused 7 6)
     -- threshold 0 at domain 1 together with parent 2 at domain 2
     ∷ fresh-call (tree 3 1 (0 ∷ 0 ∷ 2 ∷ []) (0 ∷ 0 ∷ 1 ∷ []) (1 ∷ [])) (refused 6 2)
-    -- a parent not below its domain comes before the level that it would give
+    -- a parent that is not below its domain is refused before the level it would give
     ∷ fresh-call (tree 8 1 (replicate 7 0 ++ 7 ∷ []) (0 ∷ replicate 7 1) (1 ∷ [])) (refused 6 7)
-    -- an empty leaf beside a full one
+    -- an empty leaf next to one with a thread
     ∷ fresh-call (tree 3 1 (0 ∷ 0 ∷ 0 ∷ []) (0 ∷ 2 ∷ 16 ∷ []) (1 ∷ [])) (refused 16 2)
-    -- an inner domain whose leaves are all empty: its own number is the lower
+    -- an inner domain whose leaves are all empty: its own number is the lower one
     ∷ fresh-call (tree 5 2 (0 ∷ 0 ∷ 0 ∷ 1 ∷ 1 ∷ []) (0 ∷ replicate 4 1) (2 ∷ 2 ∷ [])) (refused 16 1)
-    -- two empty leaves: the lower
+    -- two empty leaves: the lower one is the place
     ∷ fresh-call (tree 4 1 (replicate 4 0) (0 ∷ replicate 3 1) (2 ∷ [])) (refused 16 1)
-    -- an empty leaf and a home that is no leaf: 9 comes before
+    -- an empty leaf, and a home that is no leaf: 9 comes first
     ∷ fresh-call (tree 3 2 (0 ∷ 0 ∷ 0 ∷ []) (0 ∷ 2 ∷ 16 ∷ []) (1 ∷ 0 ∷ [])) (refused 9 1)
     -- an empty leaf and a state that is not well formed: 16 comes before 10
     ∷ step-call (tree 3 1 (0 ∷ 0 ∷ 0 ∷ []) (0 ∷ 2 ∷ 16 ∷ []) (1 ∷ [])) (with-place 0 (Check 0) fresh-words) 0 (refused 16 2)
@@ -139,40 +143,40 @@ cases =
     ∷ run-call root-alone fresh-words [] passes
     -- 0 four times, 1 twice, 0 seven times, then 1 0 0 1 1 1
     ∷ run-call one-home fresh-words (replicate 4 0 ++ replicate 2 1 ++ replicate 7 0 ++ 1 ∷ 0 ∷ 0 ∷ 1 ∷ 1 ∷ 1 ∷ []) (ok 19 2 1 2 0 0 (0 ∷ 1 ∷ []))
-    -- the 22 entries, the last changed to 3
+    -- the 22 entries with the last one changed to 3
     ∷ run-call two-homes fresh-words (first-entries ++ 3 ∷ []) (refused 12 21)
-    -- Check at the root in a handed-in state
+    -- Check at the root in the given state
     ∷ step-call root-alone (with-place 0 (Check 0) fresh-words) 0 (refused 10 0)
-    -- Inside in unused room
+    -- Inside in an unused slot
     ∷ step-call root-alone (with-place 1 Inside fresh-words) 0 (refused 10 0)
-    -- Swap at the root that finds none: UNLOCKED
+    -- Swap at the root that finds no tail: UNLOCKED
     ∷ step-gives root-alone (with-place 0 (Swap 0) (with-status 0 locked fresh-words)) 0 2 0 (with-place 0 Inside (with-tail 0 1 fresh-words))
-    -- Wait at the root with a status that no schedule reaches: any but LOCKED goes Inside
+    -- Wait at the root with a status that no schedule reaches: any status except LOCKED goes Inside
     ∷ step-gives root-alone (with-place 0 (Wait 0) (with-status 0 7 fresh-words)) 0 2 0 (with-place 0 Inside (with-status 0 7 fresh-words))
-    -- Check with status 0 passes 1
+    -- Check with status 0 grants 1
     ∷ step-gives one-home (with-place 0 (Check 1) (with-next 0 2 fresh-words)) 0 1 1 (with-place 0 (Grant 1 1 1) (with-next 0 2 fresh-words))
     -- Check with a status above the threshold releases the parent first
     ∷ step-gives one-home (with-place 0 (Check 1) (with-next 0 2 (with-status 0 900 fresh-words))) 0 1 1 (with-place 0 (Help 0) (with-next 0 2 (with-status 0 900 fresh-words)))
     -- Help at the root: UNLOCKED is granted
     ∷ step-gives two-in-root (with-place 0 (Help 0) (with-next 0 2 fresh-words)) 0 1 0 (with-place 0 (Grant 0 1 0) (with-next 0 2 fresh-words))
-    -- Grant writes the status of its record alone
+    -- Grant writes only the status of its record
     ∷ step-gives two-in-root (with-place 0 (Grant 0 1 0) (with-next 0 2 (with-status 1 locked fresh-words))) 0 1 0 (with-place 0 Idle (with-next 0 2 fresh-words))
     -- Linger stays without a next, and goes on to grant with one
     ∷ step-gives two-in-root (with-place 0 (Linger 0) fresh-words) 0 0 0 (with-place 0 (Linger 0) fresh-words)
     ∷ step-gives two-in-root (with-place 0 (Linger 0) (with-next 0 2 fresh-words)) 0 1 0 (with-place 0 (Grant 0 1 0) (with-next 0 2 fresh-words))
-    -- Prep at home steps as Idle does
+    -- Prep at home does the same as Idle
     ∷ step-gives one-home (with-place 0 (Prep 1) fresh-words) 0 1 1 (with-place 0 (Swap 1) (with-status 0 wait-word fresh-words))
     -- Prep clears an old next
     ∷ step-gives one-home (with-place 0 (Prep 1) (with-next 0 2 fresh-words)) 0 1 1 (with-place 0 (Swap 1) (with-status 0 wait-word fresh-words))
-    -- Idle is at home, and so is leaving
+    -- Idle and leaving are at home
     ∷ step-gives one-home fresh-words 0 1 1 (with-place 0 (Swap 1) (with-status 0 wait-word fresh-words))
     ∷ step-gives one-home (with-place 1 Inside fresh-words) 1 5 1 (with-place 1 (Check 1) fresh-words)
-    -- Wait at home: WAIT stays, a count is a passed entry
+    -- Wait at home: WAIT stays, a count gives a passed entry
     ∷ step-gives one-home (with-place 0 (Wait 1) (with-status 0 wait-word fresh-words)) 0 0 1 (with-place 0 (Wait 1) (with-status 0 wait-word fresh-words))
     ∷ step-gives one-home (with-place 0 (Wait 1) (with-status 0 2 fresh-words)) 0 3 1 (with-place 0 Inside (with-status 0 2 fresh-words))
     -- Wait at home with ACQUIRE_PARENT: status 1, and the parent is acquired
     ∷ step-gives one-home (with-place 0 (Wait 1) (with-status 0 acquire-parent fresh-words)) 0 1 1 (with-place 0 (Prep 0) (with-status 0 1 fresh-words))
-    -- Wait between home and root: a crossed entry, at that domain
+    -- Wait between home and root: a crossed entry at that domain
     ∷ step-gives three-levels (with-place 1 (Wait 1) (with-status 259 2 fresh-words)) 1 4 1 (with-place 1 Inside (with-status 259 2 fresh-words))
     -- three levels: 0 six times, 1 six times, 0 four times, 1 once
     ∷ run-call three-levels fresh-words (replicate 6 0 ++ replicate 6 1 ++ replicate 4 0 ++ 1 ∷ []) (ok 17 2 1 1 0 1 (0 ∷ 1 ∷ []))
@@ -180,70 +184,77 @@ cases =
     ∷ run-call four-levels fresh-words (replicate 8 0 ++ replicate 8 1 ++ replicate 5 0 ++ 1 ∷ []) (ok 22 2 1 1 0 1 (0 ∷ 1 ∷ []))
     ∷ []
 
--- WHEN A LINE HOLDS
+-- WHEN A LINE HOLDS. Two lists are equal
 unfoldable pub same-numbers : List ℕ → List ℕ → Bool
 same-numbers [] [] = true
 same-numbers [] (y ∷ ys) = false
 same-numbers (x ∷ xs) [] = false
 same-numbers (x ∷ xs) (y ∷ ys) = eqb x y && same-numbers xs ys
 
+-- two sets of place arrays are equal
 unfoldable pub same-places : PlaceArrays → PlaceArrays → Bool
 same-places a b =
     (same-numbers (a .rows) (b .rows) && same-numbers (a .domains) (b .domains))
     && (same-numbers (a .peers) (b .peers) && same-numbers (a .words) (b .words))
 
--- both counters of a ticket lock
+-- a state with these two ticket counters
 unfoldable pub counters : (ticket grant : ℕ) → State → State
 counters a b s = with-grant b (with-ticket a s)
 
+-- two states are equal
 unfoldable pub same-state : State → State → Bool
 same-state a b =
     (same-numbers (a .tails) (b .tails) && same-numbers (a .nexts) (b .nexts))
     && ((same-numbers (a .statuses) (b .statuses) && same-places (a .places) (b .places))
     && (eqb (a .ticket) (b .ticket) && eqb (a .grant) (b .grant)))
 
+-- number and place are as expected
 unfoldable pub gives : (number place : ℕ) → Expected → Bool
 gives n p x = eqb n (x .number) && eqb p (x .place)
 
+-- two sets of counts are equal
 unfoldable pub same-counts : Counts → Counts → Bool
 same-counts r x =
     (eqb (r .steps) (x .steps) && eqb (r .entries) (x .entries))
     && ((eqb (r .stays) (x .stays) && eqb (r .root) (x .root)) && (eqb (r .passed) (x .passed) && eqb (r .crossed) (x .crossed)))
 
+-- two sets of counters are equal
 unfoldable pub same-counters : Counters → Counters → Bool
 same-counters a b =
     same-numbers (a .entries) (b .entries) && (same-numbers (a .tenures) (b .tenures) && same-numbers (a .longest) (b .longest))
 
+-- two lock states are equal
 unfoldable pub same-lock : LockState → LockState → Bool
 same-lock a b = same-state (a .words) (b .words) && same-counters (a .counters) (b .counters)
 
--- where refused, the state is as it came
+-- if refused, the state is unchanged
 unfoldable pub kept : (refused : ℕ) → (before after : LockState) → Bool
 kept zero s n = true
 kept (suc r) s n = same-lock n s
 
--- of a run's reply and trace buffer: number, place, counts and the whole buffer; refused, also the state
+-- a run's reply and trace buffer: number, place, counts and the whole buffer; if refused, also the state
 abbrev pub run-holds : RunReply → (traced : List ℕ) → LockState → (buffer : List ℕ) → Expected → Bool
 run-holds r tr s b x =
     (gives (r .number) (r .place) x && same-counts (r .counts) (x .counts))
     && (kept (x .number) s (r .state) && same-numbers tr (x .trace ++ drop (length (x .trace)) b))
 
--- of a step's reply: number and place; refused, also the state, kind 0 and domain 0
+-- a step's reply where a refusal is expected: number, place, kind 0, domain 0 and the state
 abbrev pub step-holds : StepReply → LockState → Expected → Bool
 step-holds r s x = (gives (r .number) (r .place) x && kept (x .number) s (r .state)) && (eqb (r .kind) 0 && eqb (r .domain) 0)
 
--- of an accepted step's reply: kind, domain and all words of the state
+-- an accepted step's reply: kind, domain and all words of the state
 abbrev pub step-gave : StepReply → (kind domain : ℕ) → State → Bool
 step-gave r k d n = (eqb (r .number) 0 && eqb (r .place) 0) && ((eqb (r .kind) k && eqb (r .domain) d) && same-state (r .state .words) n)
 
--- the buffer of a run: as long as the schedule, and no number of it is a thread's
+-- the trace buffer of a run: as long as the schedule; none of its numbers is a thread
 abbrev pub trace-room : (schedule : List ℕ) → List ℕ
 trace-room is = replicate (length is) 999
 
--- the words of a lock with fresh counters
+-- a lock with these words and fresh counters
 abbrev pub uncounted : State → LockState
 uncounted s = lock-state s fresh-counters
 
+-- whether a case holds
 unfoldable pub holds : Case → Bool
 holds (fresh-call w x) = let r = fresh-answer w 7 in gives (r .number) (r .place) x && same-lock (r .state) (uncounted fresh-words)
 holds (fresh-starts w v c) =
@@ -254,22 +265,24 @@ holds (step-gives w s i k d n) = step-gave (step-answer w (uncounted s) i) k d n
 holds (run-call w s is x) =
     run-holds (run-answer w (uncounted s) is (trace-room is)) (trace-answer w (uncounted s) is (trace-room is)) (uncounted s) (trace-room is) x
 
+-- whether every case of a list holds
 unfoldable pub all-hold : List Case → Bool
 all-hold [] = true
 all-hold (c ∷ cs) = holds c && all-hold cs
 
--- THE ALLOWANCE IS REACHED, so no lower bound would hold: three domains below the root, thresholds 2, 1 and 1, with threads 0 and 1, 2, and 3
+-- THE ALLOWANCE IS REACHED, so no lower bound would hold: three domains below the root, thresholds 2, 1 and 1; threads 0 and 1 are in the first, thread 2 in the second, thread 3 in the third
 unfoldable pub three-homes : TreeWords
 three-homes = tree 4 4 (0 ∷ 0 ∷ 0 ∷ 0 ∷ []) (0 ∷ 2 ∷ 1 ∷ 1 ∷ []) (1 ∷ 1 ∷ 2 ∷ 3 ∷ [])
 
--- thread 3 is Inside; domain 1 stands in the root's queue, thread 1 in domain 1's; last, domain 2 begins to stand behind domain 1
+-- thread 3 is Inside; domain 1 stands in the root's queue and thread 1 in domain 1's queue; last, domain 2 begins to stand after domain 1
 unfoldable pub until-standing : List ℕ
 until-standing = replicate 4 3 ++ replicate 5 0 ++ replicate 3 1 ++ replicate 4 2
 
--- while it stands: thread 3 leaves and grants domain 1; threads 0 and 1 enter
+-- while domain 2 stands: thread 3 leaves and grants domain 1; threads 0 and 1 enter
 unfoldable pub while-standing : List ℕ
 while-standing = (2 ∷ []) ++ replicate 4 3 ++ replicate 4 0 ++ (1 ∷ [])
 
+-- domain 2 stands throughout, and the entries under domain 1 are as many as its allowance, 2
 unfoldable pub allowance-reached : Bool
 allowance-reached =
     let t = tree-of three-homes in

@@ -1,4 +1,4 @@
--- `rate::in_range` meets its contract. The compiled code has the two ends by their bit patterns, and `ofBits` computes them.
+-- `rate::in_range` meets its contract. The compiled code has the two ends as bit patterns, and `ofBits` computes them.
 use mathlib.Core.Path.{_≡_, refl}
 use lib.Ieee.{ofBits, binary64}
 use Rattle.rate.specs.Rate.{shortest-time, longest-time, is-time}

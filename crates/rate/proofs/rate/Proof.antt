@@ -1,4 +1,4 @@
--- `rate::rate` meets its contract: each return is the answer by the outcomes of the tests that led there.
+-- `rate::rate` meets its contract: each return is the answer for the results of the tests before it.
 use mathlib.Core.Path.{_≡_, sym, ap}
 use mathlib.Core.Bool.{Bool, true, false, not}
 use borrow.Author.Needs.{needs}
@@ -11,7 +11,7 @@ use Rattle.rate.proofs.rate.Lts as lts
 use Rattle.rate.proofs.in_range.Reads as in-range-reads
 use Rattle.rate.proofs.rate_of.Reads as rate-of-reads
 
--- the test of `if !b`, taken and left
+-- b in the two branches of `if !b`
 was-false : (b : Bool) → not b ≡ true → b ≡ false
 was-false true e = sym e
 was-false false e = sym (ap not e)

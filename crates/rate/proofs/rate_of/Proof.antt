@@ -1,4 +1,4 @@
--- `rate::rate_of` meets its contract: the two products fit 32 bits, and what it returns is the definition.
+-- `rate::rate_of` meets its contract: the two products fit in 32 bits, and the result is the definition.
 use mathlib.Core.Path.{refl}
 use native.Mathlib.Omega.{arith}
 use borrow.Author.Needs.{needs}

@@ -10,7 +10,7 @@ use Rattle.rate.proofs.reply.Tie as tie
 use Rattle.rate.proofs.reply.Reads as reads
 use Rattle.rate.proofs.reply.Lts as lts
 
--- the compiled code has 0.0 by its bit pattern
+-- the compiled code has 0.0 as its bit pattern
 zero-is : ofBits binary64 0 ≡ fin false 0 (pos 0)
 unfolding ofBits
 zero-is = refl

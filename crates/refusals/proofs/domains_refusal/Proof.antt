@@ -1,4 +1,4 @@
--- `refusals::domains_refusal` meets its contract: one walk, or the scans in order.
+-- `refusals::domains_refusal` meets its contract: one pass, or the scans in order.
 use mathlib.Core.List.{List, []}
 use Prim.Native.Nat.{ℕ}
 use Rattle.model.specs.declared.TreeWords.{TreeWords}

@@ -1,4 +1,4 @@
--- `refusals::lowest_bad_entry` meets its contract: all entries passed name threads.
+-- `refusals::lowest_bad_entry` meets its contract: all entries so far name threads.
 use Prim.Native.Nat.{_-_}
 use native.Mathlib.Omega.{arith}
 use lib.ListN.{length}

@@ -1,4 +1,4 @@
--- The counters' test by arrays is the model's.
+-- The test of the counters by arrays is the model's.
 use mathlib.Core.Path.{_≡_, refl, sym, ap, _∙_}
 use mathlib.Core.Bool.{Bool, true, false, _&&_, not, cond, false≢true}
 use mathlib.Core.List.{List, []}
@@ -14,7 +14,7 @@ use Rattle.model.proofs.Tests.{and-both, and-false}
 use Rattle.refusals.specs.Arrays.{tree-in}
 use Rattle.refusals.specs.OfRuns.Counts.{counters-in, count-in}
 
--- at most a number below 2^63
+-- a test against a bound of at most 2^63 includes the test against 2^63
 low-enough : (l h : ℕ) → h ≤ most-counted → leb l most-counted && leb l h ≡ leb l h
 low-enough l h b = by (leb l h) refl
   where
@@ -60,7 +60,7 @@ count-same m hs es ns ls d small = by (not (eqb d 0) && ltb d m) refl
     by true z = rw (real z, low-enough l (getD hs d 0) (omega arith))
     by false z = rw (zero-low l (cond (leb 1 d && ltb d m) (getD hs d 0) 0 % 65536))
 
--- what is told of a domain's counters, by the words that were read
+-- the test of a domain's counters, from the words that were read
 pub count-refusal-words :
     (m : ℕ) (hs es ns ls : List ℕ) (d h : ℕ) (r : Bool) → h ≡ getD hs d 0 → getD hs d 0 < 65536 →
     r ≡ count-in m d h (getD es d 0) (getD ns d 0) (getD ls d 0) → r ≡ good-count (tree-in m 0 [] hs []) (counters-in es ns ls) d

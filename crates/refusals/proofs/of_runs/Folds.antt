@@ -1,4 +1,4 @@
--- Folds over unused room: an OR of numbers is 0 exactly if all of them are.
+-- Folds over unused slots: an OR of numbers is 0 exactly if all of them are 0.
 use mathlib.Core.Path.{_≡_, refl, sym, ap, _∙_}
 use mathlib.Core.Bool.{Bool, true, false, _&&_, cond}
 use mathlib.Core.List.{List}
@@ -30,7 +30,7 @@ or-zero a b =
       | no x ↦ rw (ne-eqb (bitOr a b) 0 (λ z. x (omega arith)), ne-eqb a 0 x)
     ]
 
--- the fold begins, and goes on by one number
+-- the start of the fold, and one more number
 pub zeros-none : (a : ℕ) (l : List ℕ) → eqb 0 0 ≡ zeros-between a a l
 unfolding zeros-between all-below
 zeros-none a l = let z : a - a ≡ 0 = omega arith in rw z
@@ -45,7 +45,7 @@ zeros-next a k v l h e =
 pub zeros-all : (a k b : ℕ) (l : List ℕ) {x : Bool} → b ≤ k → k ≤ b → x ≡ zeros-between a k l → x ≡ zeros-between a b l
 zeros-all a k b l h g e = let z : k ≡ b = omega arith in e ∙ ap (λ n. zeros-between a n l) z
 
--- each number, and from each number
+-- from the test of all to each number, and back
 pub zero-there : (a b : ℕ) (l : List ℕ) → zeros-between a b l ≡ true → (j : ℕ) → a ≤ j → j < b → getD l j 0 ≡ 0
 unfolding zeros-between
 zero-there a b l e j h g =
@@ -56,7 +56,7 @@ pub zeros-there : (a b : ℕ) (l : List ℕ) → ((j : ℕ) → a ≤ j → j < 
 unfolding zeros-between
 zeros-there a b l f = all-true (b - a) (λ k. eqb (getD l (a + k) 0) 0) (λ k h. eq-eqb _ 0 (f (a + k) (omega arith) (omega arith)))
 
--- CLEAR ROOM, array by array
+-- UNUSED SLOTS ARE 0, array by array
 pub record Clear (m n : ℕ) (s : State) : Type 0 where
   pub rows : zeros-between m 256 (s .places .rows) ≡ true
   pub domains : zeros-between m 256 (s .places .domains) ≡ true
@@ -90,7 +90,7 @@ clear-facts m n s e =
       statuses-beyond = x .1;
     }
 
--- a record without words, and a place without numbers
+-- a record whose words are 0, and a place whose numbers are 0
 pub zero-record : (os : List ℕ) (r : ℕ) → record-in os r 0 0 ≡ true
 zero-record os r = by (eqb (getD os r 0) 255)
   where
@@ -117,7 +117,7 @@ pub idle-test :
 unfolding numbers-at
 idle-test q i r d p w = rw (r, d, p, w)
 
--- two answers that hold together are one
+-- two tests are equal if each implies the other
 pub both-ways : (a b : Bool) → (a ≡ true → b ≡ true) → (b ≡ true → a ≡ true) → a ≡ b
 both-ways true b f g = sym (f refl)
 both-ways false true f g = g refl

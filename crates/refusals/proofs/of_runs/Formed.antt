@@ -1,4 +1,4 @@
--- The tests by the table of owners together: a state passes them exactly if it is well formed.
+-- The tests with the table of owners together: a state passes them exactly if it is well formed.
 use mathlib.Core.Path.{_≡_, refl, sym, ap, _∙_}
 use mathlib.Core.Bool.{Bool, true, false, _&&_, _||_, not, cond}
 use mathlib.Core.List.{List, []}
@@ -45,19 +45,19 @@ unfolding all-below
 all-split n zero f = rw (add-zero n) (sym (and-true (all-below n f)))
 all-split n (suc k) f = rw (add-suc n k, all-split n k f) (sym (and-grouped (all-below n f) (all-below k (λ j. f (n + j))) (f (n + k))))
 
--- where all but the first pass, the first decides
+-- if all except the first pass, the first decides
 root-alone : (n : ℕ) (f : ℕ → Bool) → ((j : ℕ) → f (suc j) ≡ true) → all-below (suc n) f ≡ f 0
 unfolding all-below
 root-alone zero f h = refl
 root-alone (suc n) f h = rw (root-alone n f h, h n) (and-true (f 0))
 
--- a place's test reads the parents alone
+-- the test of a place reads only the parents of the tree
 place-same :
     (k : ℕ) (t u : Tree) (os vs : List ℕ) (i h : ℕ) (q : PlaceWords) → ((e : ℕ) → t .parent e ≡ u .parent e) → place-in k t os vs i h q ≡ place-in k u os vs i h q
 unfolding place-in ticket-place-in
 place-same k t u os vs i h q f = rw (meets-same 6 t u h (q .domain) f, child-same 6 t u 0 h f)
 
--- the home of a thread stands in the table
+-- the table has the home of each thread
 pub owner-is : (n m : ℕ) (ps hs os : List ℕ) → Owners (tree-in n m ps [] hs) os → m ≤ 256 → (i : ℕ) → i < m → getD os i 0 ≡ getD hs i 0
 unfolding is-record owner-domain tree-of
 owner-is n m ps hs os owned few i l =
@@ -79,7 +79,7 @@ module _ (w : TreeWords) (valid : Accepted (tree-of w)) (os : List ℕ) (owned :
   unfolding is-record tree-of
   no-owner i l h = owners .owner i (omega arith) ∙ rw (lt-ltb i 256 l, le-ltb i (w .threads) h)
 
-  -- of a domain's record: its parent, and none of the root's and of what is no domain of the tree
+  -- the owner of a domain's record: none for the root and outside the tree, a domain of the tree otherwise
   pub no-record-owner : (d : ℕ) → d < 64 → (d ≡ 0) ⊎ (w .domains ≤ d) → getD os (256 + d) 0 ≡ 255
   unfolding is-record tree-of
   no-record-owner d l e =
@@ -100,7 +100,7 @@ module _ (w : TreeWords) (valid : Accepted (tree-of w)) (os : List ℕ) (owned :
       let low = valid .parent-lower d p l in
       rw (owners .owner (256 + d) (omega arith), le-ltb (256 + d) 256 (omega arith), z, lt-ltb d (w .domains) l, ne-eqb d 0 (omega arith)) (omega arith)
 
-  -- and no record's owner lies beyond the domains
+  -- and no record's owner is outside the tree
   pub no-member : (d r : ℕ) → w .domains ≤ d → d < 64 → member-in os d r ≡ false
   unfolding tree-of
   no-member d r h l = by (ltb r 320) refl
@@ -142,7 +142,7 @@ module _ (w : TreeWords) (valid : Accepted (tree-of w)) (os : List ℕ) (owned :
     abbrev record-at : ℕ → Bool
     record-at r = record-in os r (next s r) (status s r)
 
-    -- a thread's words are its record and its place
+    -- the test of a thread is that of its record and of its place
     thread-both : (i : ℕ) → i < 256 → thread-at i ≡ record-at i && place-at i
     unfolding thread-in tree-of
     thread-both i small =
@@ -183,7 +183,7 @@ module _ (w : TreeWords) (valid : Accepted (tree-of w)) (os : List ℕ) (owned :
         other : (d : ℕ) → not (is-ticket (tree-of w) (suc d)) || eqb (tail s (suc d)) 0 ≡ true
         other d = let z = ticket-lower (tree-of w) (suc d) (λ e. omega arith) in rw z
 
-    -- what the root has
+    -- the test of the root's words
     abbrev root-at : Bool
     root-at = root-in (w .«ticket_root») (tail s 0) (s .ticket) (s .grant)
 
@@ -201,7 +201,7 @@ module _ (w : TreeWords) (valid : Accepted (tree-of w)) (os : List ℕ) (owned :
         all-same 320 record-at (λ r. good-next (tree-of w) s r && good-status (tree-of w) s r) (λ r l. record-is (tree-of w) valid os owners s r l)
         ∙ all-both 320 (good-next (tree-of w) s) (good-status (tree-of w) s)
 
-    -- the root, domain by domain and thread by thread
+    -- well formed: the root, each domain and each thread
     pub formed-is : well-formed (tree-of w) s ≡ root-at && (all-below 64 domain-at && all-below 256 thread-at)
     unfolding well-formed
     formed-is =

@@ -1,4 +1,4 @@
--- Members, tails and records by the table of owners: the tests are document 01's.
+-- Members, tails and records by the table of owners: the tests agree with document 01.
 use mathlib.Core.Path.{_≡_, refl}
 use mathlib.Core.Bool.{Bool, true, false, _&&_, _||_, not, cond}
 use mathlib.Core.List.{List}
@@ -15,7 +15,7 @@ use Rattle.model.proofs.Tests.{and-both, and-grouped}
 use Rattle.model.proofs.Trees.Accepted.{Accepted}
 use Rattle.refusals.specs.OfRuns.Tables.{Owners, member-in, next-in, record-in}
 
--- a member's record is one whose owner is the domain
+-- a record is a domain's member exactly if the domain is its owner
 member-owned : (t : Tree) (d r : ℕ) → is-member t d r ≡ is-record t r && eqb (owner-domain t r) d
 unfolding is-member is-record owner-domain is-child
 member-owned t d r = by (ltb r 256)

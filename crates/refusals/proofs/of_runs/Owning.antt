@@ -14,7 +14,7 @@ use Rattle.model.proofs.Trees.Reading.{read-in}
 use Rattle.refusals.specs.Arrays.{tree-in}
 use Rattle.refusals.specs.OfRuns.Tables.{thread-owner, Thread-owners, Owners}
 
--- a bound one higher differs at the bound alone
+-- raising a bound by one makes a difference only at the bound
 bound-next : (r d : ℕ) → (r ≡ d → ⊥) → ltb r (d + 1) ≡ ltb r d
 bound-next r d n =
     elim (decLt r d) [
@@ -39,7 +39,7 @@ threads-next i hs os w T =
 pub threads-all : (i m : ℕ) (hs os : List ℕ) → i ≡ m → Thread-owners i hs os → Thread-owners m hs os
 threads-all i m hs os e T = record { room = T .room; owner = λ r l. rw (← e) (T .owner r l) }
 
--- the records of the domains below d
+-- the owners of the records of the domains below d
 abbrev domain-owner : (d : ℕ) → (parents : List ℕ) → (number : ℕ) → ℕ
 domain-owner d ps r = cond (ltb (r - 256) d && not (eqb (r - 256) 0)) (getD ps (r - 256) 0) 255
 

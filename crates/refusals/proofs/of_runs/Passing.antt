@@ -1,4 +1,4 @@
--- A state of an accepted tree: what each test that fails, and what all that pass, say.
+-- A state of an accepted tree: what a failing test implies, and what it means that all pass.
 use mathlib.Core.Path.{_≡_, refl, sym, ap, _∙_}
 use mathlib.Core.Bool.{Bool, true, false, _&&_, false≢true}
 use mathlib.Core.Logic.{_≢_, _⊎_, inl, inr, ⊎-elim}
@@ -40,7 +40,7 @@ module _ (w : TreeWords) (z : tree-refusal (tree-of w) .number ≡ 0) where
         low = record { lower = λ d p l. rw (parent-in (w .domains) (w .threads) (w .parents) (w .thresholds) (w .homes) d p l) at (real .parent-lower d p l) };
       }
 
-  -- a root's words that fail, whatever the table of owners
+  -- root words that fail, whatever the table of owners is
   counters-fail : (s : State) → eqb (w .«ticket_root») 0 ≡ true → eqb (s .ticket) 0 && eqb (s .grant) 0 ≡ false → good-counters (tree-of w) s ≡ false
   unfolding good-counters tree-of
   counters-fail s e f = rw (e, f)
@@ -70,7 +70,7 @@ module _ (w : TreeWords) (z : tree-refusal (tree-of w) .number ≡ 0) where
     pub home-real : (i : ℕ) → i < w .threads → getD os i 0 < w .domains
     home-real i l = owner-real w real os owned i l
 
-    -- where the root is a ticket lock and not the only domain, no thread is at home there
+    -- if the root is not the only domain, it is no thread's home
     home-inner : (i : ℕ) → i < w .threads → w .domains ≢ 1 → getD os i 0 ≢ 0
     unfolding tree-of
     home-inner i l n z =
@@ -124,12 +124,12 @@ module _ (w : TreeWords) (z : tree-refusal (tree-of w) .number ≡ 0) where
       unfolding thread-in
       unused-is i l = rw (le-ltb i (w .threads) l)
 
-      -- THE PARTS: unused room, the domains of the tree, its threads
+      -- THE PARTS: unused slots, the domains of the tree, its threads
       abbrev parts : Bool
       parts = clear-in (w .threads) (w .domains) s && (all-below (w .domains) linked-at && all-below (w .threads) used-at)
 
       module _ (D : (d : ℕ) → d < 64 → domain-at d ≡ true) (T : (i : ℕ) → i < 256 → thread-at i ≡ true) where
-        -- the record of the root, and of what is no domain
+        -- the record of the root, and of a number outside the tree
         no-record : (d : ℕ) → d < 64 → (d ≡ 0) ⊎ (w .domains ≤ d) → (getD (s .nexts) (256 + d) 0 ≡ 0) × (getD (s .statuses) (256 + d) 0 ≡ 0)
         no-record d l e =
             let r = and-both (next-in os d (getD (s .tails) d 0)) (record-in os (256 + d) (getD (s .nexts) (256 + d) 0) (getD (s .statuses) (256 + d) 0)) (D d l) .1 in

@@ -1,4 +1,4 @@
--- A place by its four numbers: the test is the model's.
+-- A place given by its four numbers: the test is the model's.
 use mathlib.Core.Path.{_≡_, refl, sym, ap, _∙_}
 use mathlib.Core.Bool.{Bool, true, false, _&&_, _||_, not, cond}
 use mathlib.Core.List.{List}
@@ -19,7 +19,7 @@ use Rattle.model.proofs.Tests.{and-true, and-false}
 use Rattle.refusals.specs.OfRuns.Tables.{Owners, member-in, ticket-place-in, place-in}
 use Rattle.refusals.proofs.of_runs.Members.{member-is}
 
--- the order in which the code asks: the word first, and the record last. A row without a part
+-- the code tests the word first and the record last. A row without parts
 bare-order : (u v d : Bool) → not (not u && true) && (d && v) ≡ (d && (v && u)) && true
 bare-order true true true = refl
 bare-order true true false = refl
@@ -49,7 +49,7 @@ granted-order : (u b : Bool) → not (not u && false) && b ≡ b
 granted-order true b = refl
 granted-order false b = refl
 
--- a row of a ticket lock: at a ticket root, without a part, and with a further test
+-- a row of a ticket lock: at a ticket root, without parts, and with a further test
 ticket-order : (ticket u v d c : Bool) → ticket && (true && (u && (d && (v && c)))) ≡ (d && (v && u)) && (ticket && c)
 ticket-order true true true true c = refl
 ticket-order true true true false c = refl
@@ -68,11 +68,11 @@ in-order false true c = refl
 in-order false false c = refl
 
 module _ (t : Tree) (valid : Accepted t) (os vs : List ℕ) (owned : Owners t os) (k : ℕ) (root : t .ticket-root ≡ not (eqb k 0)) (i : ℕ) (h : i < t .threads) where
-  -- what is asked of a place, and of the status that it watches
+  -- the tests of a place, and of the status that it watches
   abbrev asked : Place → Bool
   asked p = good-place t i p && (not (is-watch p) || leb (getD vs (own-record t i 0) 0) 65535)
 
-  -- a domain on the path is small, so that the table decides its members
+  -- the domains on the path have small numbers, so the table decides on their members
   peer-is : (l p : ℕ) → queue-on-path t i l && member-in os l p ≡ queue-on-path t i l && is-member t l p
   unfolding queue-on-path
   peer-is l p = by (on-path t i l) (is-ticket t l) refl
@@ -85,7 +85,7 @@ module _ (t : Tree) (valid : Accepted t) (os vs : List ℕ) (owned : Owners t os
           member-is t valid os owned l p (omega (arith, o .there, r, valid .few-domains))
       by false c e = refl
 
-  -- the root is barred to queue places where it is a ticket lock
+  -- a queue place is not at a ticket root
   ticket-is : (l : ℕ) → not (eqb k 0) && eqb l 0 ≡ is-ticket t l
   unfolding is-ticket
   ticket-is l = ap (λ b. b && eqb l 0) (sym root)
@@ -101,7 +101,7 @@ module _ (t : Tree) (valid : Accepted t) (os vs : List ℕ) (owned : Owners t os
       by false true = refl
       by false false = refl
 
-  -- a place of a queue that has only a domain
+  -- a place of a queue with only a domain
   queue-place :
       (x : Place) (l : ℕ) → asked x ≡ queue-on-path t i l → asked Invalid ≡ false → (u v : Bool) →
       not (not u && true) && (not (eqb l 0 && not (eqb k 0)) && (on-path t i l && v)) ≡ asked (cond (v && u) x Invalid)

@@ -20,7 +20,7 @@ module _ (k : ℕ) (t : Tree) (os vs : List ℕ) (i h : ℕ) (q : PlaceWords) (n
   unfolding place-in
   wait-good b r d = rw (r, d, nobody, none, b, meets-here 6 t h h refl)
 
-  -- at rest in a row, or Idle
+  -- a place that rests in row r, or Idle
   rest-good : (r : ℕ) → Rest k h r → (b : Bool) → eqb (q .row) r ≡ b → cond b (eqb (q .domain) h) (eqb (q .row) 0 && eqb (q .domain) 0) ≡ true → place-in k t os vs i h q ≡ true
   rest-good r x false e f = let a = and-both _ _ f in idle-good (eqb-true (q .row) 0 (a .0)) (eqb-true (q .domain) 0 (a .1))
   rest-good _ (of-wait b) true e f = wait-good b (eqb-true (q .row) 4 e) (eqb-true (q .domain) h f)

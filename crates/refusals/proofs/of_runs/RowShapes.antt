@@ -1,4 +1,4 @@
--- Which rows of the model's table have a domain, a record, a word: as the code asks for them.
+-- Which rows of the model's table have a domain, a record, a word: as the code tests them.
 use mathlib.Core.Path.{_≡_, refl}
 use mathlib.Core.Bool.{false, _||_, cond}
 use Prim.Native.Nat.{ℕ}

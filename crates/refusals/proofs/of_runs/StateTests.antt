@@ -1,4 +1,4 @@
--- A run's tests: the tree's, then the state's, then the schedule's.
+-- The tests of a run: the tree's, then the state's, then the schedule's.
 use mathlib.Core.Path.{_≡_, refl, sym, ap, _∙_}
 use mathlib.Core.Bool.{Bool, true, false, _&&_, not}
 use mathlib.Core.List.{List, []}
@@ -21,7 +21,7 @@ use Rattle.refusals.proofs.RunTests.{state-decides, schedule-decides}
 pub tree-accepted : (t : Tree) (r : Refusal) → r ≡ refusal-words (tree-refusal t) → r .number ≡ 0 → tree-refusal t .number ≡ 0
 tree-accepted t r e z = sym (ap (λ q. q .number) e) ∙ z
 
--- the test of the counters reads domains and thresholds alone
+-- the test of the counters reads only domains and thresholds
 pub counts-of-tree : (w : TreeWords) (c : Counters) → good-counts (tree-in (w .domains) 0 [] (w .thresholds) []) c ≡ good-counts (tree-of w) c
 unfolding good-counts good-count tree-of
 counts-of-tree w c = refl
@@ -43,7 +43,7 @@ module _ (w : TreeWords) (s : LockState) (is : List ℕ) (room : ℕ) (r : Refus
     unfolding tree-refusal
     after-tree = other-decides (tree-tests t) (state-tests t s) (tree-numbered t) (tree-accepted t r e z)
 
-    -- 10
+    -- 10 refuses
     state-refuses : not (well-formed t (s .words) && good-counts t (s .counters)) ≡ true → (q : Refusal) → q ≡ refusal-words (refusal 10 0) → q ≡ answer
     unfolding bad-state refusal
     state-refuses f q g = state-decides w s is room q (g ∙ ap refusal-words (sym (after-tree ∙ single-hit _ [] refl f))) (λ y. zero-not-ten (sym (ap (λ x. x .number) g) ∙ y))

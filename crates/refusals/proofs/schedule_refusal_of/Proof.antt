@@ -1,4 +1,4 @@
--- `refusals::schedule_refusal_of` meets its contract: the length, the lowest bad entry and the room, in the order of 11 to 13.
+-- `refusals::schedule_refusal_of` meets its contract: the length, the lowest bad entry and the buffer length, in the order of 11 to 13.
 use Rattle.model.specs.Refusals.{refusal, accepted}
 use Rattle.refusals.proofs.ScheduleTests as tests
 use borrow.Author.Needs.{needs}

@@ -1,4 +1,4 @@
--- The cases hold: each is computed.
+-- The cases hold, by computation.
 use mathlib.Core.Path.{_≡_, refl, ap, _∙_}
 use mathlib.Core.Bool.{Bool, true, _&&_}
 use mathlib.Core.List.{List, [], _∷_}
@@ -22,7 +22,7 @@ use Rattle.model.proofs.Computing.{refusal-by, same-lock-formed, state-sized, s
 use Rattle.refusals.specs.StateCheck.Answers.{check-tests, check-refusal, check-answer}
 use Rattle.refusals.specs.Cases.StateCheck.{Case, empty-leaf, cases, holds, all-hold}
 
--- what refuses a state, where 10 is tested by walks
+-- what refuses a state, with 10 tested by single passes
 unfoldable walked-refusal : TreeWords → LockState → Refusal
 walked-refusal w s =
     let t = tree-of w in
@@ -43,7 +43,7 @@ unfoldable all-hold-by-walks : List Case → Bool
 all-hold-by-walks [] = true
 all-hold-by-walks (c ∷ cs) = holds-by-walks c && all-hold-by-walks cs
 
--- the states that the cases hand in are whole
+-- the arrays in the states of the cases have their full lengths
 unfoldable all-sized : List Case → Bool
 all-sized [] = true
 all-sized (c ∷ cs) = state-sized (c .state .words) && all-sized cs

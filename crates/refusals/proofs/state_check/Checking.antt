@@ -36,7 +36,7 @@ pub check-refusal-law : Check-refusal-law
 unfolding Check-refusal-law Refusal-law has-number tree-tests check-tests
 check-refusal-law t s = refusal-law (check-tests t s) (numbered (check-tests t s) refl)
 
--- later tests that all pass change no answer
+-- later tests that refuse nothing change no answer
 late-pass : (xs ys : List Test) → Numbered xs → first-refusal ys ≡ accepted → first-refusal (xs ++ ys) ≡ first-refusal xs
 unfolding Refusal-law
 late-pass xs ys n e =
@@ -46,7 +46,7 @@ late-pass xs ys n e =
     ]
 
 module _ (t : Tree) (s : LockState) where
-  -- a schedule of no entries has nothing to refuse
+  -- the tests of an empty schedule refuse nothing
   nothing-refused : (room : ℕ) → first-refusal (schedule-room-tests t [] room) ≡ accepted
   unfolding first-refusal lowest-bad bad-length bad-room
   nothing-refused room = rw (le-ltb room 0 (omega arith))
@@ -79,7 +79,7 @@ pub accepted-law : Accepted-law
 unfolding Accepted-law
 accepted-law t s = (passed t s, passes t s)
 
--- the place of an answer is its refusal's
+-- the place of a reply is that of its refusal
 reply-place : (r : Refusal) (s : LockState) (x : Run) (c : Counters) → (r .number ≡ 0 → r ≡ accepted) → run-reply r s x c .place ≡ r .place
 unfolding run-reply accepted refusal
 reply-place r s x c z = by-test (λ (y : RunReply). y .place ≡ r .place) (eqb (r .number) 0) _ _ (λ e. sym (ap (λ q. q .place) (z (eqb-true (r .number) 0 e)))) (λ e. refl)

@@ -1,4 +1,4 @@
--- The tests of a state by a table of the records' owners. proofs/ shows that they are those of the model.
+-- The tests of a state with a table of the records' owners. proofs/ shows that they agree with the model's.
 use mathlib.Core.Path.{_≡_}
 use mathlib.Core.Bool.{Bool, false, _&&_, _||_, not, cond}
 use mathlib.Core.List.{List}
@@ -13,118 +13,125 @@ use Rattle.model.specs.Places.{has-domain, has-peer, has-word}
 use Rattle.model.specs.Trees.{Tree, meets, is-record, owner-domain}
 use Rattle.refusals.specs.Paths.Records.{own-record-in}
 
--- a thread's record: its home, or 255 where there is no such thread
+-- the home of a thread; 255 if there is no such thread
 abbrev pub thread-owner : (threads : ℕ) → (homes : List ℕ) → (number : ℕ) → ℕ
 thread-owner m hs r = cond (ltb r m) (getD hs r 0) 255
 
+-- for each thread's record, its home, or 255
 pub record Thread-owners (threads : ℕ) (homes owners : List ℕ) : Type 0 where
   pub room : length owners ≡ 320
   pub owner : (r : ℕ) → r < 320 → getD owners r 0 ≡ thread-owner threads homes r
 
--- of each record, the domain whose member owns it, or 255 where no member does
+-- for each record, the domain whose member owns it; 255 if no member does
 pub record Owners (t : Tree) (owners : List ℕ) : Type 0 where
   pub owner : (r : ℕ) → r < 320 → getD owners r 0 ≡ cond (is-record t r) (owner-domain t r) 255
 
--- the owner is the domain: of a member's record
+-- the record belongs to a member of the domain
 abbrev pub member-in : (owners : List ℕ) → (domain number : ℕ) → Bool
 member-in os d r = ltb r 320 && eqb (getD os r 0) d
 
--- a tail of the domain, or a next of a record of its members
+-- a tail of the domain, or a next of one of its members' records, fits
 abbrev pub next-in : (owners : List ℕ) → (domain next : ℕ) → Bool
 next-in os d n = eqb n 0 || member-in os d (n - 1)
 
+-- the next and the status of a record fit
 abbrev pub record-in : (owners : List ℕ) → (number next status : ℕ) → Bool
 record-in os r n v = cond (eqb (getD os r 0) 255) (eqb n 0 && eqb v 0) (next-in os (getD os r 0) n)
 
--- what the state has of a domain: its tail, and the next and the status of its record
+-- the words of a domain fit: its tail, and the next and the status of its record
 abbrev pub domain-words-in : (owners : List ℕ) → (domain tail next status : ℕ) → Bool
 domain-words-in os d b n v = next-in os d b && record-in os (256 + d) n v
 
--- the tail of a domain of the tree, and the next of its record
+-- the tail of a domain of the tree, and the next of its record, fit
 abbrev pub tail-and-next-in : (owners : List ℕ) → (domain tail next : ℕ) → Bool
 tail-and-next-in os d b n = next-in os d b && next-in os (getD os (256 + d) 0) n
 
--- a word where the row has none
+-- the word is 0 if the row has none
 abbrev pub spare-word-in : (row word : ℕ) → Bool
 spare-word-in r w = not (eqb w 0) && not (has-word r)
 
+-- the other record fits the row
 abbrev pub peer-in : (owners : List ℕ) → (row domain peer : ℕ) → Bool
 peer-in os r l p = cond (has-peer r) (member-in os l p) (eqb p 0)
 
--- a number that names a ticket root
+-- the number means a ticket root
 abbrev pub ticket-in : (kind : ℕ) → Bool
 ticket-in k = not (eqb k 0)
 
--- the root in Check, and the root in every place of a queue where it is a ticket lock
+-- the place may not be at this domain: the root in Check, and a ticket root in every place of a queue
 abbrev pub barred-in : (kind row domain : ℕ) → Bool
 barred-in k r l = eqb l 0 && (eqb r 6 || ticket-in k)
 
--- a domain on the path from a home, not barred, and a record or none as the row asks
+-- the domain is on the path from a home and allowed, and the other record fits the row
 abbrev pub domain-in : (kind : ℕ) → Tree → (owners : List ℕ) → (home row domain peer : ℕ) → Bool
 domain-in k t os h r l p = not (barred-in k r l) && (meets 6 t h l && peer-in os r l p)
 
--- Draw, Watch and Raise: at a ticket root alone; a watched status is at most 65,535
+-- Draw, Watch and Raise are only at a ticket root, and a watched status is at most 65,535
 unfoldable pub ticket-place-in : (kind : ℕ) → Tree → (statuses : List ℕ) → (thread home : ℕ) → PlaceWords → Bool
 ticket-place-in k t vs i h q =
     ticket-in k && (not (ltb 13 (q .row)) && (eqb (q .word) 0 && (eqb (q .domain) 0 && (eqb (q .peer) 0
     && (not (eqb (q .row) 12) || leb (getD vs (own-record-in t i h 0) 0) 65535)))))
 
+-- the place of a thread fits
 unfoldable pub place-in : (kind : ℕ) → Tree → (owners statuses : List ℕ) → (thread home : ℕ) → PlaceWords → Bool
 place-in k t os vs i h q =
     cond (ltb 10 (q .row)) (ticket-place-in k t vs i h q)
     (not (spare-word-in (q .row) (q .word))
     && cond (has-domain (q .row)) (domain-in k t os h (q .row) (q .domain) (q .peer)) (eqb (q .domain) 0 && eqb (q .peer) 0))
 
--- what the state has of its root: no tail at a ticket root, no counters at a queue root
+-- the words of the root fit: no tail at a ticket root, no counters at a queue root
 abbrev pub root-in : (kind tail ticket grant : ℕ) → Bool
 root-in k b v g = cond (eqb k 0) (eqb v 0 && eqb g 0) (eqb b 0)
 
+-- the place is Idle
 abbrev pub idle-in : PlaceWords → Bool
 idle-in q = eqb (q .row) 0 && (eqb (q .domain) 0 && (eqb (q .peer) 0 && eqb (q .word) 0))
 
--- a row without record and word at a domain, or Idle
+-- the place is this row at this domain, without record and word, or it is Idle
 abbrev pub rests-in : (row domain : ℕ) → PlaceWords → Bool
 rests-in r h q = eqb (q .word) 0 && (eqb (q .peer) 0 && cond (eqb (q .row) r) (eqb (q .domain) h) (eqb (q .row) 0 && eqb (q .domain) 0))
 
--- the row of threads that rest: Wait, but Idle where their home is a ticket root, which is then the only domain
+-- the row of threads that rest: Wait, or Idle if their home is a ticket root, which is then the only domain
 abbrev pub resting-row : (kind domains : ℕ) → ℕ
 resting-row k n = cond (ticket-in k && eqb n 1) 0 4
 
--- the row of a thread that rests: Wait at its home, which is then no ticket root; or Idle, where its home is the root
+-- the row of a thread that rests: Wait at its home, which is then no ticket root; or Idle, if its home is the root
 pub data Rest (kind home : ℕ) : (row : ℕ) → Type 0 where
   of-wait : barred-in kind 4 home ≡ false → Rest kind home 4
   of-idle : home ≡ 0 → Rest kind home 0
 
--- every thread's home is a domain of the tree, and at rest there its place is good
+-- every thread's home is a domain of the tree, and a thread that rests there has a good place
 pub record Homes-there (kind domains threads : ℕ) (owners : List ℕ) : Type 0 where
   pub home : (i : ℕ) → i < threads → getD owners i 0 < domains
   pub rest : (i : ℕ) → i < threads → Rest kind (getD owners i 0) (resting-row kind domains)
 
--- what the state has of a thread: the next of its record, and its place
+-- the words of a thread fit: the next of its record, and its place
 abbrev pub used-in : (kind : ℕ) → Tree → (owners statuses : List ℕ) → (thread : ℕ) → PlaceWords → (next : ℕ) → Bool
 used-in k t os vs i q n = next-in os (getD os i 0) n && place-in k t os vs i (getD os i 0) q
 
--- UNUSED ROOM. All numbers from one index to before another are 0
+-- UNUSED SLOTS. All numbers from one index up to another, excluded, are 0
 unfoldable pub zeros-between : (from to : ℕ) → List ℕ → Bool
 zeros-between a b l = all-below (b - a) (λ k. eqb (getD l (a + k) 0) 0)
 
--- the places beyond the threads
+-- the places of unused threads are 0
 abbrev pub places-clear : (threads : ℕ) → PlaceArrays → Bool
 places-clear m q = zeros-between m 256 (q .rows) && (zeros-between m 256 (q .domains) && (zeros-between m 256 (q .peers) && zeros-between m 256 (q .words)))
 
--- the records beyond the threads, record 256 and those beyond the domains; the tails beyond the domains
+-- the records of unused threads and domains, record 256, and the tails of unused domains are 0
 abbrev pub records-clear : (threads domains : ℕ) → (tails nexts statuses : List ℕ) → Bool
 records-clear m n ts ns vs =
     zeros-between n 64 ts
     && (zeros-between m 257 ns && (zeros-between (256 + n) 320 ns && (zeros-between m 257 vs && zeros-between (256 + n) 320 vs)))
 
+-- all unused slots are 0
 abbrev pub clear-in : (threads domains : ℕ) → State → Bool
 clear-in m n s = places-clear m (s .places) && records-clear m n (s .tails) (s .nexts) (s .statuses)
 
--- beyond the threads, that the room is fresh
+-- the slot of an unused thread is fresh
 abbrev pub unused-in : PlaceWords → (next status : ℕ) → Bool
 unused-in q n v = idle-in q && (eqb n 0 && eqb v 0)
 
+-- the slot of a thread fits
 unfoldable pub thread-in : (kind : ℕ) → Tree → (owners statuses : List ℕ) → (threads thread : ℕ) → PlaceWords → (next status : ℕ) → Bool
 thread-in k t os vs m i q n v =
     cond (ltb i m) (used-in k t os vs i q n) (unused-in q n v)

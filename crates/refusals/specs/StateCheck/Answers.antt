@@ -1,4 +1,4 @@
--- The check of a state that a host kept: what refuses it, and its answer, for every input.
+-- The check of a state that a host has kept: what refuses it, and its answer, for every input.
 use mathlib.Core.List.{List, _++_}
 use Rattle.model.specs.declared.TreeWords.{TreeWords}
 use Rattle.model.specs.declared.LockState.{LockState}
@@ -9,9 +9,10 @@ use Rattle.model.specs.Refusals.{Refusal, Test, first-refusal, tree-tests, stat
 unfoldable pub check-tests : Tree → LockState → List Test
 check-tests t s = tree-tests t ++ state-tests t s
 
+-- the refusal of the check
 unfoldable pub check-refusal : Tree → LockState → Refusal
 check-refusal t s = first-refusal (check-tests t s)
 
--- the answer is number and place
+-- what the call answers: number and place
 unfoldable pub check-answer : TreeWords → LockState → Refusal
 check-answer w s = check-refusal (tree-of w) s

@@ -1,4 +1,4 @@
--- THE LAWS OF THE CHECK OF A STATE. Each is a statement; proofs/ has its proof.
+-- THE LAWS OF THE CHECK OF A STATE. These are statements; their proofs are in proofs/.
 use mathlib.Core.Path.{_≡_}
 use mathlib.Core.Bool.{true, false}
 use mathlib.Core.List.{List, [], _∷_}
@@ -14,26 +14,27 @@ use Rattle.model.specs.Answers.{fresh-answer, step-answer, run-answer}
 use Rattle.model.specs.Laws.{_⟺_, Formed, Refuses-exactly}
 use Rattle.refusals.specs.StateCheck.Answers.{check-tests, check-refusal, check-answer}
 
--- 1. REFUSALS. The tests are a list that the one law of refusals covers
+-- 1. REFUSALS. The general law of refusals covers the list of tests
 unfoldable pub Check-refusal-law : Type 0
 Check-refusal-law = (t : Tree) (s : LockState) → Refuses-exactly (check-tests t s)
 
--- 2. WHAT IS ACCEPTED: a tree that a fresh lock accepts, with words that are well formed and counters that are good
+-- 2. WHAT IS ACCEPTED: a tree that a fresh lock accepts, with well-formed words and good counters
 unfoldable pub Accepted-law : Type 0
 Accepted-law =
     (t : Tree) (s : LockState) →
     (check-refusal t s ≡ accepted) ⟺ ((tree-refusal t .number ≡ 0) × (well-formed t (s .words) ≡ true) × (good-counts t (s .counters) ≡ true))
 
--- 3. A RUN OF NO ENTRIES answers the same number and place, whatever room it has for a trace, and returns the state as it came
+-- 3. AN EMPTY RUN answers the same number and place, whatever the length of its trace buffer
 pub record As-empty-run (w : TreeWords) (s : LockState) (trace : List ℕ) : Type 0 where
   pub refusal : check-refusal (tree-of w) s ≡ run-refusal (tree-of w) s [] (length trace)
   pub number : check-answer w s .number ≡ run-answer w s [] trace .number
   pub place : check-answer w s .place ≡ run-answer w s [] trace .place
 
+-- for every tree, state and trace buffer
 unfoldable pub Empty-run-law : Type 0
 Empty-run-law = (w : TreeWords) (s : LockState) (trace : List ℕ) → As-empty-run w s trace
 
--- 4. WHAT CALLS RETURN IS TAKEN UP: the state of an accepted fresh call, and that of an accepted step or run on a state of the right sizes
+-- 4. WHAT CALLS RETURN IS ACCEPTED: the state of an accepted fresh call, and that of an accepted step or run on a state whose arrays have the right lengths
 pub record Takes-up (w : TreeWords) : Type 0 where
   pub of-fresh : (start : ℕ) → fresh-answer w start .number ≡ 0 → check-answer w (fresh-answer w start .state) ≡ accepted
   pub of-step : (s : LockState) (i : ℕ) → Formed (tree-of w) (s .words) → step-answer w s i .number ≡ 0 → check-answer w (step-answer w s i .state) ≡ accepted
@@ -41,10 +42,11 @@ pub record Takes-up (w : TreeWords) : Type 0 where
       (s : LockState) (schedule trace : List ℕ) → Formed (tree-of w) (s .words) → run-answer w s schedule trace .number ≡ 0 →
       check-answer w (run-answer w s schedule trace .state) ≡ accepted
 
+-- for every tree
 unfoldable pub Taken-up-law : Type 0
 Taken-up-law = (w : TreeWords) → Takes-up w
 
--- 5. A STATE THAT IS TAKEN UP is stepped: no step of a thread of the tree is refused but by 19
+-- 5. AN ACCEPTED STATE can be stepped: only 19 refuses a step of a thread of the tree
 unfoldable pub Stepped-law : Type 0
 Stepped-law =
     (t : Tree) (s : LockState) (i : ℕ) → check-refusal t s ≡ accepted → i < t .threads →

@@ -1,11 +1,11 @@
-// The counters of a state handed in.
+// The counters of a given state.
 ghost use mathlib.Core.Path.{_≡_};
 ghost use mathlib.Core.List.{[]};
 ghost use Rattle.model.specs.Counters.{good-counts};
 ghost use Rattle.refusals.specs.Arrays.{tree-in};
 ghost use Rattle.refusals.specs.OfRuns.Counts.{counters-in, zeros-in, count-in};
 
-// The most that a counter may be, 2^63.
+// The largest value of a counter, 2^63.
 const MOST: u64 = 9223372036854775808;
 
 fn zeros_at(entries: u64, tenures: u64, longest: u64) -> bool
@@ -20,7 +20,7 @@ fn zeros_at(entries: u64, tenures: u64, longest: u64) -> bool
     longest == 0
 }
 
-// The counters of a domain: of the root and of unused room 0.
+// The counters of a domain; those of the root and of unused slots are 0.
 fn good_count_at(
     domains: u32,
     d: u8,
@@ -46,7 +46,7 @@ fn good_count_at(
     longest <= threshold as u64
 }
 
-// Whether all counters are good, in one walk.
+// Whether all counters are good, in one pass.
 pub(crate) fn good_counts<'c>(
     thresholds: &[u16; 64],
     domains: u32,

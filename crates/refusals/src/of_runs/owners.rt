@@ -1,10 +1,10 @@
-// Of each record, the domain whose member owns it: a table that the tests of a state read.
+// For each record, the domain whose member owns it: a table that the tests of a state read.
 ghost use mathlib.Core.List.{[]};
 ghost use Prim.Native.Nat.{_<_, _≤_};
 ghost use Rattle.refusals.specs.Arrays.{tree-in};
 ghost use Rattle.refusals.specs.OfRuns.Tables.{Owners, Thread-owners};
 
-// The homes of the threads, at their records; 255 in all other room.
+// The homes of the threads, at their records; 255 in all other slots.
 fn thread_owners(owners: &mut [u8; 320], homes: &[u8; 256], threads: u32)
     requires { ⌜ threads ≤ 256 ⌝ }
     ensures { λ r. ⌜ Thread-owners threads (now (homes .entry)) (now (owners .exit)) ⌝ }
@@ -19,7 +19,7 @@ fn thread_owners(owners: &mut [u8; 320], homes: &[u8; 256], threads: u32)
     }
 }
 
-// Of each record, the domain whose member owns it; 255 where no member does.
+// For each record, the domain whose member owns it; 255 if no member does.
 pub(crate) fn owners_of<'a>(
     owners: &mut [u8; 320],
     parents: &'a [u8; 64],

@@ -1,4 +1,4 @@
-// A thread's place, from the four arrays that are lent.
+// A thread's place, read from the four borrowed arrays.
 ghost use mathlib.Core.Path.{_≡_};
 ghost use Prim.Native.Nat.{_<_};
 ghost use Rattle.model.specs.States.{numbers-at};

@@ -1,9 +1,9 @@
-// Which parts a place has beside its row, by the model's table of rows.
+// Which parts a place has in addition to its row, by the model's table of rows.
 ghost use mathlib.Core.Path.{_≡_};
 ghost use Rattle.model.specs.Places.{has-domain, has-peer, has-word};
 ghost use Rattle.refusals.specs.OfRuns.Tables.{spare-word-in};
 
-// Every row to Grant, but for Idle and Inside.
+// Every row up to Grant, except Idle and Inside.
 pub(crate) fn has_domain(row: u8) -> bool
     ensures { λ q. ⌜ q ≡ has-domain row ⌝ }
 {
@@ -33,7 +33,7 @@ fn has_word(row: u8) -> bool
     row == 10
 }
 
-// A word where the row has none.
+// Whether there is a word although the row has none.
 pub(crate) fn has_spare_word(row: u8, word: u64) -> bool
     ensures { λ q. ⌜ q ≡ spare-word-in row word ⌝ }
 {

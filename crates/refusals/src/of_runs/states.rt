@@ -1,4 +1,4 @@
-// The tests of the homes and of a state that is handed in, in a tree that 4 to 8 do not refuse.
+// The tests of the homes and of a given state, in a tree that 4 to 8 do not refuse.
 ghost use mathlib.Core.Path.{_≡_};
 ghost use mathlib.Core.Bool.{_&&_};
 ghost use Prim.Native.Nat.{_+_, _<_, _≤_};
@@ -12,7 +12,7 @@ use crate::of_runs::places;
 use crate::of_runs::shapes;
 use model::PlaceWords;
 
-// The tail of a domain, and the next of its record, by the domain whose member owns that.
+// The tail of a domain, and the next of its record, given the domain of which it is a member.
 fn good_domain_words_at(owners: &[u8; 320], d: u8, tail: u16, owner: u8, next: u16) -> bool
     ensures { λ q. ⌜ q ≡ next-in (now (owners .entry)) d tail && next-in (now (owners .entry)) owner next ⌝ }
 {
@@ -32,7 +32,7 @@ fn is_member_at(owners: &[u8; 320], d: u8, r: u16) -> bool
     owners[at] == d
 }
 
-// A tail of a domain, or a next of a record of its members: none, or such a record.
+// A tail of a domain, or a next of one of its members' records: none, or such a record.
 fn good_next_at(owners: &[u8; 320], d: u8, next: u16) -> bool
     ensures { λ q. ⌜ q ≡ next-in (now (owners .entry)) d next ⌝ }
 {
@@ -47,7 +47,7 @@ fn good_next_at(owners: &[u8; 320], d: u8, next: u16) -> bool
     owners[at] == d
 }
 
-// The tail of each domain of the tree, and the next of its record; the root has none.
+// The tail of each domain of the tree, and the next of its record; the root has no record.
 pub(crate) fn good_domains<'s>(
     owners: &[u8; 320],
     domains: u32,
@@ -72,7 +72,7 @@ pub(crate) fn good_domains<'s>(
     true
 }
 
-// Whether the way up from a domain meets another.
+// Whether going up from a domain reaches another.
 fn meets_at(parents: &[u8; 64], domains: u32, from: u8, d: u8) -> bool
     requires { ⌜ domains ≤ 64 ⌝ }
     requires { ⌜ Lower domains (now parents) ⌝ }
@@ -95,7 +95,7 @@ fn meets_at(parents: &[u8; 64], domains: u32, from: u8, d: u8) -> bool
     c == d
 }
 
-// The root in Check, or in any place of a queue where it is a ticket lock.
+// The root in Check, or a ticket root in any place of a queue.
 fn is_barred_at(ticket_root: u32, row: u8, l: u8) -> bool
     ensures { λ q. ⌜ q ≡ barred-in «ticket_root» row l ⌝ }
 {
@@ -108,7 +108,7 @@ fn is_barred_at(ticket_root: u32, row: u8, l: u8) -> bool
     ticket_root != 0
 }
 
-// Draw, Watch and Raise: at a ticket root alone, a watched status at most 65,535.
+// Draw, Watch and Raise: only at a ticket root, with a watched status of at most 65,535.
 fn good_ticket_place_at(
     parents: &[u8; 64],
     statuses: &[u64; 320],
@@ -146,7 +146,7 @@ fn good_ticket_place_at(
     statuses[at] <= 65535
 }
 
-// A tail at a ticket root, or counters at a queue root.
+// No tail at a ticket root, no counters at a queue root.
 pub(crate) fn good_root_at(ticket_root: u32, tail: u16, ticket: u16, grant: u16) -> bool
     ensures { λ q. ⌜ q ≡ root-in «ticket_root» tail ticket grant ⌝ }
 {
@@ -235,7 +235,7 @@ pub(crate) fn resting_row_of(ticket_root: u32, domains: u32) -> u8
     4
 }
 
-// Wait at home, as most threads are under contention, or Idle: the places that need no further test.
+// Wait at home, the place of most threads under contention, or Idle: these places need no further test.
 fn rests_at(row: u8, home: u8, q: PlaceWords) -> bool
     ensures { λ r. ⌜ r ≡ rests-in row home q ⌝ }
 {
@@ -254,7 +254,7 @@ fn rests_at(row: u8, home: u8, q: PlaceWords) -> bool
     q.domain == 0
 }
 
-// What the state has of a thread: its record and its place.
+// The words of a thread: its record and its place.
 fn good_thread_at(
     parents: &[u8; 64],
     owners: &[u8; 320],
@@ -283,7 +283,7 @@ fn good_thread_at(
     good_place_at(parents, owners, statuses, domains, ticket_root, i, home, q)
 }
 
-// What the state has of each thread.
+// The words of each thread.
 pub(crate) fn good_threads<'s>(
     parents: &[u8; 64],
     owners: &[u8; 320],

@@ -1,4 +1,4 @@
-// Unused room: one fold over each array, without an early end, so that many numbers are looked at at once.
+// Unused slots: one fold over each array, without an early exit, so that the compiler can test many numbers at once.
 ghost use mathlib.Core.Path.{_≡_};
 ghost use Prim.Native.Nat.{_≤_};
 ghost use lib.Dec.{eqb};
@@ -6,7 +6,7 @@ ghost use lib.ListN.{length};
 ghost use Rattle.refusals.specs.Arrays.{places-in, lent-state};
 ghost use Rattle.refusals.specs.OfRuns.Tables.{zeros-between, places-clear, records-clear, clear-in};
 
-// 0 where all of some numbers are; for bytes, for numbers of 16 bits and for those of 64.
+// 0 if all these numbers are 0; for 8-bit, 16-bit and 64-bit numbers.
 fn any_byte(values: &[u8], from: usize, to: usize) -> u8
     requires { ⌜ (from ≤ to) × (to ≤ length (now values)) ⌝ }
     ensures { λ r. ⌜ eqb r 0 ≡ zeros-between from to (now (values .entry)) ⌝ }
@@ -46,7 +46,7 @@ fn any_word(values: &[u64], from: usize, to: usize) -> u64
     all
 }
 
-// Whether the places beyond the threads are fresh.
+// Whether the places of unused threads are fresh.
 fn are_places_clear<'s>(
     threads: usize,
     rows: &'s [u8; 256],
@@ -69,7 +69,7 @@ fn are_places_clear<'s>(
     any_word(words, threads, 256) == 0
 }
 
-// Whether the tails beyond the domains, and the records beyond the threads and the domains, record 256 among them, are fresh.
+// Whether the tails of unused domains, the records of unused threads and domains, and record 256 are fresh.
 fn are_records_clear<'s>(
     threads: usize,
     domains: usize,
@@ -96,7 +96,7 @@ fn are_records_clear<'s>(
     any_word(statuses, past, 320) == 0
 }
 
-// Whether all room that the tree lacks is fresh.
+// Whether all unused slots are fresh.
 pub(crate) fn is_clear<'s>(
     threads: u32,
     count: u32,

@@ -1,4 +1,4 @@
--- What a row of the acquire leaves: the place where a domain is acquired.
+-- The place that a row of the acquire leaves: where acquiring a domain starts.
 use mathlib.Core.Path.{_≡_, refl, sym, ap, _∙_}
 use mathlib.Core.Bool.{Bool, true, false, _&&_, not, cond}
 use Prim.Native.Nat.{ℕ}
@@ -11,7 +11,7 @@ use Rattle.rows.specs.declared.common.Member.{Member}
 use Rattle.rows.specs.Common.Rows.{Stands, Root-is}
 use Rattle.rows.specs.Common.Standing.{acquire-at}
 
--- where a domain is acquired, by the number that names the kind of root
+-- the place where acquiring a domain starts, from the number of the kind of root
 pub acquire-is : (t : Tree) (k : ℕ) → Root-is t k → (d : ℕ) → acquire-at k d ≡ acquire-place t d
 unfolding is-ticket
 acquire-is t k r d = by (eqb k 0) (eqb d 0) ∙ ap (λ b. cond (b && eqb d 0) Draw (Prep d)) r
@@ -22,7 +22,7 @@ acquire-is t k r d = by (eqb k 0) (eqb d 0) ∙ ap (λ b. cond (b && eqb d 0) Dr
     by false true = refl
     by false false = refl
 
--- what follows a domain that is acquired is no Link
+-- the place where acquiring a domain starts is no Link
 pub acquire-no-link : (k d : ℕ) → eqb (words-of (acquire-at k d) .row) 3 ≡ false
 acquire-no-link k d = by (eqb d 0) (eqb k 0)
   where

@@ -1,4 +1,4 @@
--- What the functions that count say of arrays of counters, index by index.
+-- What the functions that count do to arrays of counters, index by index.
 use mathlib.Core.Path.{_≡_, refl, sym, ap, _∙_}
 use mathlib.Core.Bool.{Bool, true, false, _&&_, not, cond, false≢true}
 use mathlib.Core.List.{List, [], _∷_}
@@ -19,7 +19,7 @@ use Rattle.refusals.specs.Arrays.{Lower}
 use Rattle.rows.specs.Common.Counting.{parent-in, added-at, raised-at, is-watch-in, taken-in, marked-in, Climbed, at-root, one-up, Started, record-domain-in, Entered, is-shown, Counted-shown}
 use Rattle.rows.specs.Common.Standing.{is-entry-number}
 
--- a stored word that stood there already
+-- storing a word that is already there changes nothing
 pub set-same : (vs : List ℕ) (d v : ℕ) → v ≡ getD vs d 0 → set vs d v ≡ vs
 set-same [] d v e = refl
 set-same (x ∷ vs) zero v e = rw e
@@ -49,7 +49,7 @@ set-from h k (v ∷ vs) (suc d) =
 pub set-indexed : (h : ℕ → ℕ) (vs : List ℕ) (d : ℕ) → set vs d (h (getD vs d 0)) ≡ each-with-index (λ j v. cond (eqb j d) (h v) v) 0 vs
 set-indexed h vs d = let z : 0 + d ≡ d = omega arith in rw z at (set-from h 0 vs d)
 
--- the domain that is meant, which is not the root
+-- an index is a given domain other than the root
 abbrev pub is-at : (domain at : ℕ) → Bool
 is-at d j = not (eqb d 0) && eqb j d
 
@@ -75,7 +75,7 @@ raised-indexed vs d w = by (eqb d 0)
     by true = sym (indexed-kept (λ j v. max v 0) 0 vs (λ j v. omega arith))
     by false = set-indexed (λ v. max v w) vs d ∙ indexed-same _ _ 0 vs (λ j v. one (eqb j d) v)
 
--- CLIMBING. Whatever the rest of the way leaves, the whole way leaves; and what the next turn needs
+-- CLIMBING. What the rest of the path leaves is what the whole path leaves; and what the next turn needs
 pub record Climbs (domains : ℕ) (parents : List ℕ) (home : ℕ) (entries : List ℕ) (c : ℕ) (left : List ℕ) : Type 0 where
   pub real : c < domains
   pub long : length left ≡ length entries
@@ -101,7 +101,7 @@ climbs-on m ps h es c vs low n k =
 pub climbs-end : (m : ℕ) (ps : List ℕ) (h : ℕ) (es : List ℕ) (c : ℕ) (vs : List ℕ) → c ≡ 0 → Climbs m ps h es c vs → Climbed (parent-in m ps) h es vs
 climbs-end m ps h es c vs z k = k .climbed vs (rw z (at-root vs))
 
--- MARKED DOMAINS, one more looked at
+-- MARKED DOMAINS, with one more looked at
 pub counted-none : (shown : List Bool) (ts ls : List ℕ) → Counted-shown shown 0 ts ts ls ls
 counted-none shown ts ls =
     record {
@@ -120,7 +120,7 @@ counted-none shown ts ls =
 abbrev number : Bool → ℕ
 number b = cond b 1 0
 
--- of an index, whether it is shown below k + 1: below k, or at the domain that is meant
+-- an index is shown below k + 1 exactly if it is shown below k, or is k, marked and not the root
 shown-next :
     (shown : List Bool) (k c : ℕ) → c ≡ cond (getD shown k false) k 0 → (d : ℕ) →
     (number (is-shown shown (k + 1) d) ≡ number (is-shown shown k d) + number (is-at c d))
@@ -185,7 +185,7 @@ counted-next shown k ts ts′ ls ls′ g c e ts″ ls″ a b =
     largest v false false true h = absurd (omega arith)
     largest v false false false h = omega arith
 
--- the domains that are not yet looked at keep their tenures
+-- the domains not yet looked at keep their tenures
 pub unmoved :
     (k c : ℕ) (b : Bool) → c ≡ cond b k 0 → (ts ts′ ts″ : List ℕ) → ts″ ≡ added-at ts′ c → ((j : ℕ) → k ≤ j → getD ts′ j 0 ≡ getD ts j 0) →
     (j : ℕ) → k + 1 ≤ j → getD ts″ j 0 ≡ getD ts j 0
@@ -215,7 +215,7 @@ module _ (m : ℕ) (ps : List ℕ) (h : ℕ) (vs : List ℕ) (q : PlaceWords) (v
       let z : eqb (getD vs (256 + taken-in m ps h 0) 0) v ≡ true = eq-eqb (getD vs (256 + taken-in m ps h 0) 0) v (rw (← e, ← f) y) in
       rw (w, z, e)
 
--- AN ENTRY by the kind that is told
+-- AN ENTRY, from the reported kind
 pub entered : (p : ℕ → ℕ) (k h : ℕ) (es es′ : List ℕ) → is-entry-number k ≡ true → Climbed p h es es′ → Entered p k h es es′
 entered p k h es es′ e c = record { entry = λ z. c; other = λ z. absurd (false≢true (sym z ∙ e)) }
 

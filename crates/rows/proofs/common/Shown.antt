@@ -1,4 +1,4 @@
--- The search for a ticket, what is counted where no domain from a number on is marked, and marks that are all cleared.
+-- The search for a ticket, what is counted if no domain from a number on is marked, and marks that are all cleared.
 use mathlib.Core.Path.{_≡_, refl, ap, _∙_}
 use mathlib.Core.Bool.{Bool, false, cond}
 use mathlib.Core.List.{List}
@@ -17,13 +17,13 @@ use Rattle.rows.proofs.common.Counts.{counted-none}
 pub clear-none : Clear (replicate 64 false)
 clear-none = record { room = length-replicate {A = Bool} 64 false; none = λ d h. replicate-all (λ (x : Bool). x ≡ false) 64 d false refl }
 
--- a scan of the records for a ticket, one more passed
+-- one more record in a scan of the records for a ticket
 pub one-more-differs :
     (vs : List ℕ) (v k : ℕ) → ((j : ℕ) → j < k → getD vs (256 + j) 0 ≢ v) → getD vs (256 + k) 0 ≢ v →
     (j : ℕ) → j < k + 1 → getD vs (256 + j) 0 ≢ v
 one-more-differs vs v k h n j l = elim (ℕ-discrete j k) [ yes z ↦ rw z n | no z ↦ h j (omega (arith, z)) ]
 
--- where no domain from a number on is marked, those below it are all that are shown
+-- if no domain from k on is marked, all that are shown are below k
 shown-all : (shown : List Bool) (k : ℕ) → k ≤ 64 → ((d : ℕ) → k ≤ d → d < 64 → getD shown d false ≡ false) → (d : ℕ) → is-shown shown k d ≡ is-shown shown 64 d
 shown-all shown k l h d =
     elim (decLt d k) [
@@ -44,7 +44,7 @@ counted-all shown k ts ts′ ls ls′ l h g =
       raised = g .raised ∙ indexed-same _ _ 0 ls (λ d v. ap (λ b. max v (cond b 1 0)) (shown-all shown k l h d));
     }
 
--- no mark: nothing is counted, and the marks stay cleared
+-- without marks nothing is counted, and the marks stay cleared
 pub unmarked-counted : (shown : List Bool) (ts ls : List ℕ) → ((d : ℕ) → d < 64 → getD shown d false ≡ false) → Counted-shown shown 64 ts ts ls ls
 unmarked-counted shown ts ls h = counted-all shown 0 ts ts ls ls (omega arith) (λ d l b. h d b) (counted-none shown ts ls)
 

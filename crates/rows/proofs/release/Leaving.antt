@@ -1,4 +1,4 @@
--- What a row of the release leaves: the place after a domain is done, and the place where one is released.
+-- The place that a row of the release leaves: after a domain is released, and where releasing one starts.
 use mathlib.Core.Path.{_≡_, refl, ap, _∙_}
 use mathlib.Core.Bool.{Bool, true, false, _&&_, not, cond}
 use Prim.Native.Nat.{ℕ}
@@ -12,7 +12,7 @@ use Rattle.rows.specs.declared.common.Member.{Member}
 use Rattle.rows.specs.Common.Rows.{Stands, Root-is}
 use Rattle.rows.specs.Common.Standing.{release-at, done-at}
 
--- where a thread goes from a domain that is done
+-- the place of a thread after releasing a domain
 pub done-is : (t : Tree) (i : ℕ) (w : Member) → Stands t i w → done-at (w .home) (w .domain) (w .child) ≡ done-place t i (w .domain)
 done-is t i w R = rw (← R .home-is) (by (eqb (w .domain) (w .home)) refl)
   where
@@ -23,7 +23,7 @@ done-is t i w R = rw (← R .home-is) (by (eqb (w .domain) (w .home)) refl)
 pub root-done : (t : Tree) (i : ℕ) (w : Member) → Stands t i w → w .domain ≡ 0 → done-at (w .home) (w .domain) (w .child) ≡ done-place t i 0
 root-done t i w R z = done-is t i w R ∙ ap (done-place t i) z
 
--- where a domain is released, by the number that names the kind of root
+-- the place where releasing a domain starts, from the number of the kind of root
 pub release-is : (t : Tree) (k : ℕ) → Root-is t k → (d : ℕ) → release-at k d ≡ release-place t d
 unfolding is-ticket
 release-is t k r d =
@@ -35,7 +35,7 @@ release-is t k r d =
     by false true = refl
     by false false = refl
 
--- where a domain is released, nothing is granted yet
+-- the place where releasing a domain starts is no Grant
 pub release-no-grant : (k d : ℕ) → eqb (words-of (release-at k d) .row) 10 ≡ false
 release-no-grant k d = by (eqb d 0) (eqb k 0)
   where

@@ -1,4 +1,4 @@
--- From a row that is done to a step that is taken.
+-- A row that is done gives a step that is taken.
 use mathlib.Core.Path.{_≡_, refl, sym, ap, _∙_}
 use mathlib.Core.Bool.{Bool, true, false, not, cond, false≢true}
 use mathlib.Core.List.{List}
@@ -39,7 +39,7 @@ use Rattle.rows.specs.Step.Taking.{tree-at, state-in, Ready, Taken}
 use Rattle.rows.proofs.step.StepCounted.{other-counted}
 use Rattle.rows.proofs.common.RowPlaces.{place-by-row}
 
--- the row of a place at a domain
+-- the row of a place, at a given domain
 abbrev pub row-at : Tree → (thread domain : ℕ) → Place → State → Row-result
 row-at t i l Idle s = start-row t i l s
 row-at t i l (Prep k) s = prep-row t i l s
@@ -75,7 +75,7 @@ row-same t i Watch s = refl
 row-same t i Raise s = refl
 row-same t i Invalid s = refl
 
--- the domain of a good place is one of the tree's
+-- the domain of a good place is a domain of the tree
 module _ (t : Tree) (accepts : Accepted t) (i : ℕ) (h : i < t .threads) where
   domain-real : (p : Place) → good-place t i p ≡ true → place-domain (t .home i) p < t .domains
   unfolding good-place
@@ -111,18 +111,18 @@ invalid-bad : (t : Tree) (i : ℕ) → good-place t i Invalid ≡ true → ⊥
 unfolding good-place
 invalid-bad t i e = false≢true e
 
--- the domain of a domain's record
+-- the domain of a domain's record, from the record's number
 domain-back : (d : ℕ) → record-domain-in (256 + d) ≡ d
 domain-back d = let z : ltb (256 + d) 256 ≡ false = le-ltb (256 + d) 256 (omega arith) in rw z (omega arith)
 
--- a thread that is ready for its step, by the tree's numbers and arrays
+-- a thread that is ready for its step, given the tree's numbers and arrays
 pub record Turn (k n m : ℕ) (ps ts hs : List ℕ) (i : ℕ) (q : PlaceWords) : Type 0 where
   pub ready : Ready (tree-at k n m ps ts hs) i q
 
 pub turn-of : (k n m : ℕ) (ps ts hs : List ℕ) (i : ℕ) (q : PlaceWords) → Ready (tree-at k n m ps ts hs) i q → Turn k n m ps ts hs i q
 turn-of k n m ps ts hs i q ready = record { ready = ready }
 
--- what an accepted tree gives the code
+-- what the code knows from an accepted tree
 module _ {k n m : ℕ} {ps ts hs : List ℕ} {i : ℕ} {q : PlaceWords} (turn : Turn k n m ps ts hs i q) where
   abbrev t : Tree
   t = tree-at k n m ps ts hs
@@ -174,7 +174,7 @@ module _ {k n m : ℕ} {ps ts hs : List ℕ} {i : ℕ} {q : PlaceWords} (turn : 
     pub grant-fits : (l x w : ℕ) → p ≡ Grant l x w → x < 320
     grant-fits l x w e = grant-small t accepts i (turn .ready .thread) l x w (good (Grant l x w) e)
 
-    -- what a step counts that is neither a raise nor a Check, by its place
+    -- what a step counts from any place except Raise and Check
     pub counted :
         (x : Place) → p ≡ x → words-of x .row ≢ 13 → words-of x .row ≢ 6 → (after : PlaceWords) (kind : ℕ) (shown : List Bool) (ts ts′ ls ls′ : List ℕ) (d : ℕ) →
         d ≡ started-in n ps (getD hs i 0) (words-of x) (after .row) kind → Started d ts ts′ ls ls′ → Counted-step n ps (getD hs i 0) q after kind shown ts ts′ ls ls′
@@ -256,7 +256,7 @@ module _ {k n m : ℕ} {ps ts hs : List ℕ} {i : ℕ} {q : PlaceWords} (turn : 
         unfolding tree-of
         threshold-is d = rw (read-in 1 n ts (w .domain) (omega (arith, d)) (rw (M .domain-is) real))
 
-        -- the places of a ticket lock are at the root
+        -- if the domain of the place is the root, so is the thread's domain
         pub at-root : (x : Place) → p ≡ x → place-domain (getD hs i 0) x ≡ 0 → w .domain ≡ 0
         at-root x e z = M .domain-is ∙ at x e ∙ z
 

@@ -8,7 +8,7 @@ use Rattle.model.specs.Trees.{Tree}
 use Rattle.rows.specs.declared.common.Member.{Member}
 use Rattle.rows.specs.Common.Rows.{Stands, Above}
 
--- what Check reads, which is never at the root
+-- what Check reads; Check is never at the root
 pub record Check-reads (t : Tree) (i : ℕ) (s : State) (w : Member) (kind parent threshold n v : ℕ) : Type 0 where
   pub stands : Stands t i w
   pub inner : w .domain ≢ 0

@@ -1,4 +1,4 @@
--- One step of a thread by the arrays that are lent: what it asks for, and that the row of its place is done.
+-- One step of a thread on borrowed arrays: what it requires, and that it does the row of its place.
 use mathlib.Core.Path.{_≡_}
 use mathlib.Core.Bool.{true}
 use mathlib.Core.List.{List}
@@ -15,10 +15,11 @@ use Rattle.model.specs.States.{numbers-at}
 use Rattle.rows.specs.declared.common.rows.Moved.{Moved}
 use Rattle.rows.specs.Common.Rows.{Done}
 
--- a tree by its numbers and arrays
+-- a tree with these numbers and arrays
 abbrev pub tree-at : (kind domains threads : ℕ) → (parents thresholds homes : List ℕ) → Tree
 tree-at k n m ps ts hs = tree-of (record { domains = n; threads = m; parents = ps; thresholds = ts; homes = hs; «ticket_root» = k })
 
+-- a state with these arrays
 abbrev pub state-in : (tails nexts statuses : List ℕ) → (ticket grant : ℕ) → PlaceArrays → State
 state-in ts ns vs v g ps = record { tails = ts; nexts = ns; statuses = vs; places = ps; ticket = v; grant = g }
 

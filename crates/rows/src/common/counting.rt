@@ -1,4 +1,4 @@
-// What is counted of the domains: the entries along a thread's path, the tenures that start, the lengths that are told.
+// What is counted for the domains: the entries along a thread's path, the tenures that start, the lengths that are reported.
 ghost use mathlib.Core.Path.{_≡_};
 ghost use mathlib.Core.Bool.{cond};
 ghost use Prim.Native.Nat.{_+_, _<_, _≤_};
@@ -10,7 +10,7 @@ ghost use Rattle.refusals.specs.Arrays.{Lower};
 ghost use Rattle.rows.specs.Common.Counting.{parent-in, Room-above, taken-in, record-domain-in, added-at, raised-at, Started, Climbed, is-watch-in, marked-in, Holding, Looked, Shown-for, Counted-shown, Clear};
 use model::PlaceWords;
 
-// The child domain for whose record a thread works at a domain; 0 where it works for its own.
+// The child domain whose record a thread uses at a domain; 0 if it uses its own record.
 fn taken_at(parents: &[u8; 64], domains: u32, home: u8, l: u8) -> u8
     requires { ⌜ domains ≤ 64 ⌝ }
     requires { ⌜ Lower domains (now parents) ⌝ }
@@ -25,7 +25,7 @@ fn taken_at(parents: &[u8; 64], domains: u32, home: u8, l: u8) -> u8
     found.child
 }
 
-// The domain of a record; 0 where it is a thread's.
+// The domain that owns a record; 0 for a thread's record.
 fn record_domain(r: u16) -> u8
     requires { ⌜ r < 320 ⌝ }
     ensures { λ q. ⌜ q ≡ record-domain-in r ⌝ }
@@ -37,7 +37,7 @@ fn record_domain(r: u16) -> u8
     (r - 256) as u8
 }
 
-// One tenure more of a domain, where there is one.
+// Counts one more tenure of a domain; nothing for domain 0.
 fn count_start(tenures: &mut [u64; 64], d: u8)
     requires { ⌜ d < 64 ⌝ }
     requires { ⌜ (d ≢ 0 → getD (now tenures) d 0 < 18446744073709551615) ⌝ }
@@ -50,7 +50,7 @@ fn count_start(tenures: &mut [u64; 64], d: u8)
     tenures[at] = tenures[at] + 1;
 }
 
-// The longest tenure of a domain takes in a length, where there is one.
+// The longest tenure of a domain takes in a length; nothing for domain 0.
 pub fn count_length(longest: &mut [u64; 64], d: u8, v: u64)
     requires { ⌜ d < 64 ⌝ }
     ensures { λ r. ⌜ now (longest .exit) ≡ raised-at (now (longest .entry)) d v ⌝ }
@@ -65,7 +65,7 @@ pub fn count_length(longest: &mut [u64; 64], d: u8, v: u64)
     longest[at] = v;
 }
 
-// A record is given the lock of its domain: a tenure of length 1 starts where it is a domain's.
+// A record gets the lock of its domain: if it is a domain's record, a tenure of length 1 starts.
 pub fn count_given(r: u16, tenures: &mut [u64; 64], longest: &mut [u64; 64])
     requires { ⌜ r < 320 ⌝ }
     requires { ⌜ Room-above (now tenures) ⌝ }
@@ -76,7 +76,7 @@ pub fn count_given(r: u16, tenures: &mut [u64; 64], longest: &mut [u64; 64])
     count_length(longest, d, 1);
 }
 
-// An entry: one more of each domain from the thread's home up, but for the root.
+// An entry: one more in each domain from the thread's home up, except the root.
 pub fn count_entry(parents: &[u8; 64], domains: u32, home: u8, entries: &mut [u64; 64])
     requires { ⌜ domains ≤ 64 ⌝ }
     requires { ⌜ Lower domains (now parents) ⌝ }
@@ -107,14 +107,14 @@ fn is_watch_at(q: PlaceWords) -> bool
     q.word == 0
 }
 
-// One more, from 65,535 to 0.
+// One more; 0 comes after 65,535.
 pub fn next_number(v: u16) -> u16
     ensures { λ r. ⌜ r ≡ wrap (v + 1) ⌝ }
 {
     std::num::wrapping_add_u16(v, 1)
 }
 
-// Whether the record of one of so many domains holds a ticket.
+// Whether the record of one of the domains has this ticket.
 fn holds_ticket(statuses: &[u64; 320], domains: u32, v: u64) -> bool
     requires { ⌜ domains ≤ 64 ⌝ }
     ensures { λ r. ⌜ Holding (now (statuses .entry)) domains v r ⌝ }
@@ -130,7 +130,7 @@ fn holds_ticket(statuses: &[u64; 320], domains: u32, v: u64) -> bool
     false
 }
 
-// How many threads are looked at: all where a step raises and some domain's record holds the ticket that it shows, else none.
+// How many threads a step looks at: all if it is a raise and some domain's record has the ticket that it shows, else none.
 pub fn looked_at(row: u8, statuses: &[u64; 320], domains: u32, grant: u16, threads: u32) -> u32
     requires { ⌜ domains ≤ 64 ⌝ }
     ensures { λ r. ⌜ Looked row (now (statuses .entry)) domains (wrap (grant + 1)) threads r ⌝ }
@@ -145,7 +145,7 @@ pub fn looked_at(row: u8, statuses: &[u64; 320], domains: u32, grant: u16, threa
     0
 }
 
-// A thread that watches: the domain with whose record it does is marked where the record holds the ticket that a raise shows.
+// A thread that watches: the domain for whose record it watches is marked if the record has the ticket that a raise shows.
 pub fn mark_shown<'t>(
     parents: &'t [u8; 64],
     domains: u32,
@@ -173,7 +173,7 @@ pub fn mark_shown<'t>(
     shown[at] = true;
 }
 
-// The domain itself where it is so, else 0.
+// The domain itself if the test holds, else 0.
 fn domain_if(hit: bool, d: u8) -> u8
     requires { ⌜ d < 64 ⌝ }
     ensures { λ r. ⌜ r ≡ cond hit d 0 ⌝ }
@@ -185,7 +185,7 @@ fn domain_if(hit: bool, d: u8) -> u8
     0
 }
 
-// A raise: one tenure more of each domain that is marked, where any thread was looked at. Then no domain is marked.
+// A raise: one more tenure for each marked domain, if any thread was looked at. Then no domain is marked.
 pub fn count_shown(
     looked: u32,
     domains: u32,

@@ -7,7 +7,7 @@ ghost use Rattle.rows.specs.Common.Standing.{acquire-at, release-at, don
 use model::Place;
 use model::PlaceWords;
 
-// The place of four numbers that give one: its row alone decides.
+// The place that four numbers stand for; they are known to be a place, so its row decides.
 pub fn place_by_row(words: PlaceWords) -> Place
     requires { ⌜ place-of words ≢ Invalid ⌝ }
     ensures { λ r. ⌜ r ≡ place-of words ⌝ }
@@ -67,7 +67,7 @@ pub fn words_at(place: Place) -> PlaceWords
     }
 }
 
-// Where a domain is acquired.
+// The place where acquiring a domain starts.
 pub fn acquire_place_at(ticket_root: u32, d: u8) -> Place
     ensures { λ r. ⌜ r ≡ acquire-at «ticket_root» d ⌝ }
 {
@@ -80,7 +80,7 @@ pub fn acquire_place_at(ticket_root: u32, d: u8) -> Place
     Place::Draw
 }
 
-// Where a domain is released.
+// The place where releasing a domain starts.
 pub fn release_place_at(ticket_root: u32, d: u8) -> Place
     ensures { λ r. ⌜ r ≡ release-at «ticket_root» d ⌝ }
 {
@@ -93,7 +93,7 @@ pub fn release_place_at(ticket_root: u32, d: u8) -> Place
     Place::Raise
 }
 
-// Where a thread goes from a domain that is done.
+// Where a thread goes after releasing a domain.
 pub fn done_place_at(home: u8, l: u8, child: u8) -> Place
     ensures { λ r. ⌜ r ≡ done-at home l child ⌝ }
 {
@@ -104,7 +104,7 @@ pub fn done_place_at(home: u8, l: u8, child: u8) -> Place
     }
 }
 
-// The domain of a place by its row and the domain that it names; Idle and Inside are at home.
+// The domain of a place, given its row and the domain it names; Idle and Inside are at home.
 pub fn domain_by_row(home: u8, row: u8, l: u8) -> u8
     ensures { λ r. ⌜ r ≡ row-domain home row l ⌝ }
 {

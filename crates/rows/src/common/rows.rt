@@ -1,4 +1,4 @@
-// What all rows of the step table share: what a row says of its step, and the word that it chooses at the root.
+// What all rows of the step table share: what a row reports about its step, and the word that it chooses at the root.
 ghost use mathlib.Core.Path.{_≡_};
 ghost use Rattle.model.specs.States.{root-word};
 ghost use Rattle.model.specs.Places.{words-of};
@@ -7,7 +7,7 @@ use crate::common::places;
 use model::Place;
 use model::PlaceWords;
 
-// What a row says of its step: its kind, and the thread's place after it.
+// What a row reports about its step: its kind, and the thread's place after it.
 pub struct Moved {
     pub kind: u8,
     pub place: PlaceWords,
@@ -26,7 +26,7 @@ pub fn moves(kind: u8, p: Place) -> Moved
     at_place(kind, places::words_at(p))
 }
 
-// A word of the root's, or another.
+// One word for the root, another for other domains.
 pub fn root_word_at(l: u8, at_root: u64, elsewhere: u64) -> u64
     ensures { λ r. ⌜ r ≡ root-word l «at_root» elsewhere ⌝ }
 {

@@ -1,4 +1,4 @@
--- What lengths add up to, one length at a time.
+-- The sum of lengths, one length at a time.
 use mathlib.Core.Path.{_≡_, sym, _∙_}
 use mathlib.Core.Bool.{false}
 use mathlib.Core.List.{List}
@@ -12,7 +12,7 @@ use lib.Seq.{drop-cons}
 use borrow.Author.Tests.{eq-eqb, ne-eqb}
 use Rattle.schedules.specs.Rows.{total}
 
--- from a length on: it, and what is after it
+-- the lengths from one on: it, and those after it
 pub total-next : (ns : List ℕ) (k : ℕ) → k < length ns → total (drop k ns) ≡ getD ns k 0 + total (drop (k + 1) ns)
 unfolding total
 total-next ns k h = rw (add-one, drop-cons ns k 0 h)
@@ -21,7 +21,7 @@ pub total-end : (ns : List ℕ) (k : ℕ) → length ns ≤ k → total (drop k 
 unfolding total
 total-end ns k h = rw (drop-of-length-le ns h)
 
--- two equations that hold together are one test
+-- two equivalent equations have the same test
 same-test : (a b c d : ℕ) → (a ≡ b → c ≡ d) → (c ≡ d → a ≡ b) → eqb a b ≡ eqb c d
 same-test a b c d f g =
     elim (ℕ-discrete a b) [
@@ -29,7 +29,7 @@ same-test a b c d f g =
       | no z ↦ ne-eqb a b z ∙ sym (ne-eqb c d (λ e. z (g e)))
     ]
 
--- the entries less the lengths passed, where none of these was more than what was left
+-- the entries minus the lengths so far, as long as no length exceeded what was left
 module _ (ns : List ℕ) (entries left k : ℕ) (so-far : total ns + left ≡ entries + total (drop k ns)) where
   pub too-long : k < length ns → left < getD ns k 0 → false ≡ eqb (total ns) entries
   too-long h l = let n = total-next ns k h in sym (ne-eqb (total ns) entries (λ e. omega arith))

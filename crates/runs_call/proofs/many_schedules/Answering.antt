@@ -1,4 +1,4 @@
--- What the code tells of the refusals of the whole call, by what it has tested.
+-- What the code's tests imply about the refusals of the whole call.
 use mathlib.Core.Path.{_≡_, sym, ap, _∙_}
 use mathlib.Core.Bool.{true, false}
 use mathlib.Core.List.{List}

@@ -1,4 +1,4 @@
--- A row of many schedules: what the schedule's tests and the run from fresh words answer is the row of its run alone.
+-- A row of many schedules: the schedule's tests and the run from fresh words give the row of its run alone.
 use mathlib.Core.Path.{_≡_, refl, sym, ap, _∙_}
 use mathlib.Core.List.{List}
 use Prim.Native.Nat.{ℕ, _≤_}
@@ -25,7 +25,7 @@ use Rattle.lock.specs.Steps.Running.{kinds-of, counts-by, trace-front}
 use Rattle.lock.proofs.steps.Answering.{run-refuses, run-passes, kinds-few, run-answered}
 
 module _ (w : TreeWords) (ok : tree-refusal (tree-of w) .number ≡ 0) (is : List ℕ) (r : Refusal) (e : r ≡ refusal-words (first-refusal (schedule-room-tests (threads-in (w .threads)) is (length is)))) where
-  -- the trace buffer of the schedule's length, which a run alone has
+  -- a trace buffer of the schedule's length, as in a run alone
   abbrev own : List ℕ
   own = replicate (length is) 0
 
@@ -42,7 +42,7 @@ module _ (w : TreeWords) (ok : tree-refusal (tree-of w) .number ≡ 0) (is : Lis
     abbrev facts : Good-run (tree-of w) fresh-lock is (length own)
     facts = run-facts (tree-of w) fresh-lock is (length own) (run-passes w fresh-lock is own r met z)
 
-    -- with counters that start at 0 for each schedule
+    -- the same with counters that start at 0 for each schedule
     pub steps-pass : (room : ℕ) → 65536 ≤ room → first-refusal (run-tests-before-19 (tree-of w) (lock-state fresh (counters-in (replicate 64 0) (replicate 64 0) (replicate 64 0))) is room) .number ≡ 0
     unfolding fresh-counters
     steps-pass room h =

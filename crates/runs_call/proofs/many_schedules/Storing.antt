@@ -1,4 +1,4 @@
--- Rows stored one after another, as the code stores them, are those that the call's buffer has at its front.
+-- Rows that the code stores in order are those at the front of the call's buffer.
 use mathlib.Core.Path.{_≡_, refl, sym, ap, _∙_}
 use mathlib.Core.List.{List, [], _++_}
 use Prim.Native.Nat.{ℕ, suc, _+_, _*_, _≤_, _<_}
@@ -33,12 +33,12 @@ unfolding rows-of after-one-another cut
 rows-next w ns es l k from at h =
     rw (add-one, drop-cons ns k 0 h, drop-drop) (row-first l at (alone w (take (getD ns k 0) (drop from es))) _)
 
--- after the last length there is none
+-- after the last length there are no rows
 rows-end : (w : TreeWords) (ns es : List ℕ) (k : ℕ) → length ns ≤ k → all-rows w (cut (drop k ns) es) ≡ []
 unfolding rows-of after-one-another cut
 rows-end w ns es k h = rw (drop-of-length-le ns h)
 
--- after k schedules: the rows stored so far, and those still ahead
+-- after k schedules: the rows stored so far, and those still to come
 pub record So-far (w : TreeWords) (ns es before now : List ℕ) (k from at : ℕ) : Type 0 where
   pub together : sets now at (all-rows w (cut (drop k ns) (drop from es))) ≡ sets before 0 (all-rows w (cut ns es))
   pub ahead : total (drop k ns) + from ≡ length es
@@ -67,7 +67,7 @@ module _ (w : TreeWords) (ns es b l : List ℕ) (k from at : ℕ) (s : So-far w 
   pub ends : length ns ≤ k → l ≡ sets b 0 (all-rows w (cut ns es))
   ends h = sym (ap (sets l at) (rows-end w ns (drop from es) k h)) ∙ s .together
 
--- all of them stored from the front on
+-- all of them, stored from the front on
 rows-written : (w : TreeWords) (ns es b : List ℕ) → many-answer w ns es b .number ≡ 0 → sets b 0 (all-rows w (cut ns es)) ≡ rows-answer w ns es b
 unfolding many-answer
 rows-written w ns es b e =
@@ -76,7 +76,7 @@ rows-written w ns es b e =
     let z : 0 + length (all-rows w (cut ns es)) ≡ length (all-rows w (cut ns es)) = omega arith in
     rw (sets-eq (all-rows w (cut ns es)) b 0 (omega arith), z) (sym (rows-accepted w ns es b e))
 
--- THE CALL, by what the code was told of its refusal
+-- THE CALL, by the result of its tests
 module _ (w : TreeWords) (ns es b : List ℕ) (r : Refusal) (e : r ≡ refusal-words (many-refusal (tree-of w) ns (length es) (length b))) where
   pub call-refuses : (r .number ≡ 0 → ⊥) → (record { number = r .number; place = r .place; rows = 0 } ≡ many-reply w ns es b) × (b ≡ rows-answer w ns es b)
   unfolding many-answer many-reply

@@ -1,4 +1,4 @@
--- From what the refusals, the run and the rows are to the answer of the call.
+-- The answer of the call, from the refusals, the run and the rows.
 use mathlib.Core.Path.{_≡_, refl, sym, ap, _∙_}
 use mathlib.Core.Bool.{Bool, true, false}
 use mathlib.Core.List.{List, [], _∷_}
@@ -43,7 +43,7 @@ use Rattle.kinds.proofs.Refusing.{early-passes, early-zero}
 use Rattle.kinds.proofs.Buffers.{same-refusal, row-law, kinds-buffer-law, kinds-run-law}
 use Rattle.runs_call.specs.WithKinds.Spreading.{Threads-fit, Spread}
 
--- WHAT THE LOOP TOLD of each step, and what it left alone
+-- WHAT THE LOOP REPORTED for each step, and what it left unchanged
 code-at :
     (b : List ℕ) (t : Tree) (is : List ℕ) (s : State) (k : ℕ) → k < length is → length is ≤ length b →
     getD (codes-front b (steps t is s)) k 0 ≡ step-code (step t (getD is k 0) (state-after s (steps t (take k is) s)))
@@ -60,7 +60,7 @@ code-after (c ∷ b) [] j h = refl
 code-after (c ∷ b) (x ∷ xs) zero h = absurd (omega arith)
 code-after (c ∷ b) (x ∷ xs) (suc j) h = code-after b xs j (omega arith)
 
--- below a number, or not
+-- a number is below another, or not
 same-or-less : (j n : ℕ) (C : Type 0) → (j < n → C) → (n ≤ j → C) → C
 same-or-less j n C f g = by (ltb j n) refl
   where
@@ -109,7 +109,7 @@ module _ (w : TreeWords) (s : LockState) (is b rs : List ℕ) (r : Refusal) (e :
     pub threads-fit : Threads-fit is
     threads-fit = record { fits = below t is (good .tree) (good .threads) }
 
-    -- THE ROWS, by what was told of the steps
+    -- THE ROWS, by what was reported for the steps
     module _ (ty : Typed (s .words)) (codes rows : List ℕ) (f : codes ≡ codes-front rs xs) (g : Spread (w .homes) is codes 0 rows) where
       abbrev B : List ℕ
       B = kinds-rows w s is b rs

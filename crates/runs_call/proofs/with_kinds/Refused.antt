@@ -1,4 +1,4 @@
--- What the code tells of the refusals, by what it has tested.
+-- What the code's tests imply about the refusals.
 use mathlib.Core.Path.{_≡_, sym, ap, _∙_}
 use mathlib.Core.List.{List}
 use Prim.Native.Nat.{ℕ, _/_, _≤_, _<_}
@@ -20,7 +20,7 @@ module _ (t : Tree) (s : LockState) (is : List ℕ) (room n : ℕ) (r : Refusal)
   abbrev answer : Refusal
   answer = refusal-words (kinds-refusal t s is room n)
 
-  -- refused before 28: what is told is the answer
+  -- if a test before 28 refuses, its result is the answer
   pub run-answered : (r .number ≡ 0 → ⊥) → r ≡ answer
   run-answered h =
       let n′ = refusal-words-not r _ e h in
@@ -35,7 +35,7 @@ module _ (t : Tree) (s : LockState) (is : List ℕ) (room n : ℕ) (r : Refusal)
     unfolding Kinds-refusal-law
     room-answered l = ap refusal-words (sym (kinds-refusal-law t s is room n .room-refused passes (omega arith)))
 
-    -- 19 is left
+    -- only 19 is left to test
     pub alone : first-refusal (run-tests-before-19 t s is (length is)) .number ≡ 0
     alone = passes-alone t s is room passes
 

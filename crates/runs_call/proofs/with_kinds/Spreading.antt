@@ -1,4 +1,4 @@
--- One number for each step becomes two, from the last step down.
+-- One number per step becomes two, starting from the last step.
 use mathlib.Core.Path.{_≡_, refl, ap, _∙_}
 use mathlib.Core.List.{List}
 use mathlib.Core.Logic.{_≢_}
@@ -15,7 +15,7 @@ module _ (homes schedule before : List ℕ) where
   spread-none =
       record { long = refl; ahead = λ j h. refl; kind = λ j h l. absurd (omega arith); domain = λ j h l. absurd (omega arith); behind = λ j h. refl }
 
-  -- one step further down
+  -- one more step, from the last to the first
   pub spread-one :
       (rows : List ℕ) (k : ℕ) → k < length schedule → 2 * length schedule ≤ length before → Spread homes schedule before (k + 1) rows → (i domain : ℕ) → i ≡ getD schedule k 0 →
       domain ≡ row-domain (getD homes i 0) ((getD rows k 0 / 8) % 16) (getD rows k 0 / 128) →

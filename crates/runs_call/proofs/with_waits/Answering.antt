@@ -1,4 +1,4 @@
--- What the code tells of the refusals of a run with waits, by what it has tested.
+-- What the code's tests imply about the refusals of a run with waits.
 use mathlib.Core.Path.{_≡_, sym, ap, _∙_}
 use mathlib.Core.List.{List}
 use Prim.Native.Nat.{ℕ, _/_, _≤_, _<_}
@@ -31,9 +31,9 @@ module _ (t : Tree) (s : LockState) (is : List ℕ) (room n : ℕ) (r : Refusal)
         let passes = refusal-words-zero r _ e z in
         e ∙ ap refusal-words (refusal-law (run-tests-before-19 t s is room) (run-numbered-before-19 t s is room) .zero-accepted passes ∙ sym (rows-pass t s is room n passes (omega arith)))
 
--- with 27 after them: what the numbers refuse, and what is left where they do not
+-- then 27: what the numbers refuse, and what is left if they refuse nothing
 module _ (t : Tree) (s : LockState) (is : List ℕ) (room n : ℕ) (us : List ℕ) (r : Refusal) (e : r ≡ refusal-words (early t s is room n)) where
-  -- refused before 27: what is told is the answer
+  -- if a test before 27 refuses, its result is the answer
   pub waits-answered : (r .number ≡ 0 → ⊥) → r ≡ refusal-words (waits-on-refusal t s is room n us)
   waits-answered h = e ∙ ap refusal-words (sym (waits-refused t s is room n us (refusal-words-not r _ e h) ∙ early-decides t s is room n (refusal-words-not r _ e h)))
 
@@ -47,7 +47,7 @@ module _ (t : Tree) (s : LockState) (is : List ℕ) (room n : ℕ) (us : List �
         let refused = number-refuses t s is room n us passes k L h in
         ap refusal-words (sym (on-early-decides t s is room n us (λ q. let m = sym (ap (λ v. v .number) refused) ∙ q in omega arith) ∙ refused))
 
-    -- 19 is left, and the run and its rows may go on
+    -- only 19 is left to test; the run and its rows pass the other tests
     pub run-passes : first-refusal (run-tests-before-19 t s is room) .number ≡ 0
     run-passes = early-passes t s is room n passes .0
 

@@ -1,4 +1,4 @@
--- Counting attempts by what steps were told to be.
+-- Counting attempts from the numbers that report the steps.
 use mathlib.Core.Path.{_≡_, refl, sym, ap, subst, _∙_}
 use mathlib.Core.Bool.{Bool, true, false, _&&_, _||_, cond}
 use mathlib.Core.List.{List, [], _∷_, _++_, append-assoc, append-nil}
@@ -29,7 +29,7 @@ pub mark-fits : (b : Bool) (n m : ℕ) → m ≤ n + 1 → mark-with b n m ≤ n
 mark-fits true n m h = omega arith
 mark-fits false n m h = h
 
--- THE NUMBER OF A PLACE tells whether an attempt begins there
+-- THE NUMBER OF A PLACE determines whether an attempt begins there
 abbrev number-of : Place → ℕ
 number-of p = words-of p .row + 16 * words-of p .domain
 
@@ -79,7 +79,7 @@ draws-number Watch = refl
 draws-number Raise = refl
 draws-number Invalid = refl
 
--- a step's number, divided by eight, is that of its place, and the rest is that of its kind
+-- a step's number divided by eight is the number of its place, and the remainder that of its kind
 place-of-code : (x : Step) → step-code x / 8 ≡ number-of (x .place)
 unfolding step-code
 place-of-code x = let h = kind-small (x .kind) in omega arith
@@ -169,7 +169,7 @@ module _ (w : TreeWords) (is codes M₀ A₀ W₀ L₀ : List ℕ) (n₀ : ℕ) 
               rw more (turn t us _ M A W L n (G .tallies us done s g) x i refl thread-small b e begins enters M′ A′ W′ L′ em ea ew el));
         }
 
-    -- the same by the numbers that the code has read
+    -- the same with the numbers that the code has read
     pub counted-read :
         (at : ℕ) → at ≡ getD is k 0 → (th b e : Bool) → th ≡ ticket-home (w .«ticket_root») (getD (w .homes) at 0) →
         b ≡ begins-number th (getD (w .homes) at 0) (getD codes k 0 / 8) → e ≡ is-entry-number (getD codes k 0 % 8) → (M′ A′ W′ L′ : List ℕ) (n′ : ℕ) → n′ ≡ n + cond e 1 0 →

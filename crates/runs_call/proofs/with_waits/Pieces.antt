@@ -56,7 +56,7 @@ take-more l zero m = let z : 0 + m ≡ m = omega arith in rw z
 take-more [] (suc a) m = let z : suc a + m ≡ suc (a + m) = omega arith in rw z (none-taken m)
 take-more (x ∷ l) (suc a) m = let z : suc a + m ≡ suc (a + m) = omega arith in rw z (ap (λ (r : List ℕ). x ∷ r) (take-more l a m))
 
--- THE KINDS of two lists of steps one after another
+-- THE KINDS of two consecutive lists of steps
 kinds-join : (xs ys : List Step) → kinds-of (xs ++ ys) ≡ kinds-added (kinds-of xs) (kinds-of ys)
 unfolding kinds-of
 kinds-join xs ys =
@@ -73,7 +73,7 @@ all-counted : (xs : List Step) → counts-by (kinds-of xs) .steps ≡ length xs
 unfolding counts-of
 all-counted xs = ap (λ v. v .steps) (counts-kinds xs)
 
--- THE TRACE of a second run after that of a first
+-- THE TRACE of a second run after the trace of a first
 trace-after :
     (b₀ b T U ys : List ℕ) (n : ℕ) → b ≡ T ++ drop (length T) b₀ → n ≡ length T → n ≤ length b → ys ≡ U ++ drop (length U) (take (length b - n) (drop n b)) →
     take n b ++ (ys ++ drop (length b - n) (drop n b)) ≡ (T ++ U) ++ drop (length (T ++ U)) b₀
@@ -85,7 +85,7 @@ trace-after b₀ b T U ys n eb en h ey =
     let over : drop (length b - n) (drop n b) ≡ [] = drop-of-length-le (drop n b) {i = length b - n} (omega arith) in
     rw (front, over, ey, all, rest, append-nil, drop-drop, length-append T U, append-assoc T U (drop (length T + length U) b₀))
 
--- WHAT WAS TOLD of a step
+-- WHAT WAS REPORTED for a step
 code-at-seam : (b : List ℕ) (ps : List Step) (x : Step) (qs : List Step) → length ps < length b → getD (codes-front b (ps ++ (x ∷ qs))) (length ps) 0 ≡ step-code x
 unfolding codes-front
 code-at-seam [] ps x qs h = absurd (omega arith)
@@ -116,7 +116,7 @@ module _ (w : TreeWords) (us is b₀ : List ℕ) (s₀ : State) (c₀ : Counters
   abbrev done : ℕ → List Step
   done k = steps t (take k is) s₀
 
-  -- the first entries are done, in some pieces
+  -- the first entries are done, in pieces
   pub record In-pieces (b M A W L : List ℕ) (s : State) (c : Counters) (kinds : List ℕ) (n from : ℕ) : Type 0 where
     pub within : from ≤ length is
     pub formed : Formed t s
@@ -166,7 +166,7 @@ module _ (w : TreeWords) (us is b₀ : List ℕ) (s₀ : State) (c₀ : Counters
     pub marks-fit : Marks-fit M n
     marks-fit = record { few = entered-small; each = mark-small t us (done from) M A W L n (G .tallies) }
 
-    -- the end
+    -- at the end
     module _ (h : length is ≤ from) where
       whole : take from is ≡ is
       whole = take-all from is h
@@ -191,7 +191,7 @@ module _ (w : TreeWords) (us is b₀ : List ℕ) (s₀ : State) (c₀ : Counters
       numbers-are few l l′ e =
           e ∙ ap (λ (r : List ℕ). sets l 0 r) (numbers-end t us (done from) M A W L n (G .tallies) (t .threads) few ∙ ap (λ v. under-way-below t us (t .threads) (steps t v s₀)) whole)
 
-    -- a piece
+    -- one piece
     module _ (end : ℕ) (more : from < end) (fit : end ≤ length is) (short : end ≤ from + 1024) where
       abbrev piece : List ℕ
       piece = take (end - from) (drop from is)
@@ -240,7 +240,7 @@ module _ (w : TreeWords) (us is b₀ : List ℕ) (s₀ : State) (c₀ : Counters
           let c : counts-by pk .steps ≡ end - from = ap (λ v. counts-by v .steps) e ∙ all-counted (steps t piece s) ∙ steps-length t piece s ∙ piece-long in
           omega (arith, a, c, more, fit, R .short)
 
-      -- what was told of it can be counted
+      -- what was reported for the piece can be counted
       module _ (codes : List ℕ) (et : codes ≡ codes-front (replicate 1024 0) (steps t piece s)) where
         room : length codes ≡ 1024
         room = ap length et ∙ reported-front-length (replicate 1024 0) (steps t piece s) ∙ length-replicate {A = ℕ} 1024 0

@@ -1,4 +1,4 @@
--- The tables of all threads, one step after another, and the rows that they give.
+-- The tables of all threads, step by step, and the rows that they give.
 use mathlib.Core.Path.{_≡_, refl, sym, ap, _∙_}
 use mathlib.Core.Bool.{Bool, true, false, cond}
 use mathlib.Core.List.{List, [], _∷_, _++_}
@@ -34,7 +34,7 @@ noted-elsewhere : (b : Bool) (l : List ℕ) (k v j : ℕ) → j ≢ k → getD (
 noted-elsewhere true l k v j n = getD-set-other l k j v 0 n
 noted-elsewhere false l k v j n = refl
 
--- ONE STEP more, where the tables have room for its thread
+-- ONE MORE STEP, if the tables have a slot for its thread
 module _ (t : Tree) (us : List ℕ) (xs : List Step) (M A W L : List ℕ) (n : ℕ) (T : Tallies t us xs M A W L n) (x : Step) (at : ℕ) (mine : x .thread ≡ at) (small : at < 256)
     (b e : Bool) (f : begins-from t at (x .place) ≡ b) (g : is-entry (x .kind) ≡ e) where
   abbrev mark : ℕ
@@ -94,7 +94,7 @@ module _ (t : Tree) (us : List ℕ) (xs : List Step) (M A W L : List ℕ) (n : �
           )
           (own-turn t at (getD us at 0) xs x mine _ _ _ _ o b e f g (under-way-from t at (getD us at 0) xs) refl (o .marked))
 
--- WHAT THE CODE NEEDS so that no number overflows, after so many steps
+-- WHAT THE CODE NEEDS so that no number overflows, after a number of steps
 module _ (t : Tree) (us : List ℕ) (xs : List Step) (M A W L : List ℕ) (n : ℕ) (T : Tallies t us xs M A W L n) where
   pub mark-small : (at : ℕ) → at < 256 → getD M at 0 ≤ n + 1
   mark-small at h = let q = T .entered-are in ⊎-elim (λ z. omega (arith, z .1)) (λ z. omega (arith, z .0, z .1 .0)) (T .each at h .marked)
@@ -111,7 +111,7 @@ module _ (t : Tree) (us : List ℕ) (xs : List Step) (M A W L : List ℕ) (n : �
       let b = bounded t at (getD us at 0) xs .1 .0 in
       ⊎-elim (λ y. absurd (z (y .1))) (λ y. omega (arith, y .0, y .1 .0, o .total-is, T .entered-are, few, T .small at h, b)) (o .marked)
 
--- AT THE START the tables are 0, but for the marks of the numbers handed in
+-- AT THE START the tables are 0, except for the marks of the given numbers
 zeros : (i : ℕ) → i < 256 → getD {A = ℕ} (replicate 256 0) i 0 ≡ 0
 zeros i h = getD-replicate 256 i 0 0 h
 

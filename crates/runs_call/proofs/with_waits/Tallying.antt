@@ -1,4 +1,4 @@
--- What is counted of a thread after some steps, one step after another: how the code keeps it.
+-- What is counted for a thread, step by step: how the code keeps it.
 use mathlib.Core.Path.{_≡_, refl, sym, ap, _∙_}
 use mathlib.Core.Bool.{Bool, true, false, cond}
 use mathlib.Core.List.{List, [], _∷_, _++_, append-nil}
@@ -19,7 +19,7 @@ use Rattle.waits.proofs.Sums.{total-join, largest-join}
 use Rattle.waits.proofs.Joining.{under-way-join, waits-join}
 use Rattle.runs_call.specs.WithWaits.Tallies.{first, mark-with, mark-of, number-of, finishes, wait-of, Marked, Tallied}
 
--- MARKS: of a number before the steps, and the number of one after them
+-- MARKS: the mark of a number before the steps, and the number of a mark after them
 pub marked-first : (a : ℕ) → a ≤ first → Marked first a (mark-of a)
 unfolding mark-of
 marked-first zero h = inl (refl, refl)
@@ -31,7 +31,7 @@ number-reported n a m (inl z) = rw (eq-eqb m 0 (z .1)) (sym (z .0))
 number-reported n a m (inr z) = rw (ne-eqb m 0 (omega (arith, z .1 .1))) (omega (arith, z .1 .0))
 
 module _ (t : Tree) (i under-way : ℕ) where
-  -- one step more
+  -- one more step
   module _ (xs : List Step) (x : Step) where
     abbrev pub now : ℕ
     now = under-way-from t i under-way xs
@@ -54,7 +54,7 @@ module _ (t : Tree) (i under-way : ℕ) where
     pub counted-next : first + how-many is-entry (xs ++ (x ∷ [])) ≡ n + cond (is-entry (x .kind)) 1 0
     counted-next = ap (λ v. first + v) entries-next ∙ (let z : first + (how-many is-entry xs + cond (is-entry (x .kind)) 1 0) ≡ n + cond (is-entry (x .kind)) 1 0 = omega arith in z)
 
-    -- no attempt is finished
+    -- if no attempt is finished
     keeps :
         (m m′ a w l : ℕ) → Tallied t under-way xs i m a w l → waits-from t i under-way (xs ++ (x ∷ [])) ≡ waits-from t i under-way xs →
         Marked (n + cond (is-entry (x .kind)) 1 0) (under-way-from t i under-way (xs ++ (x ∷ []))) m′ → Tallied t under-way (xs ++ (x ∷ [])) i m′ a w l
@@ -69,7 +69,7 @@ module _ (t : Tree) (i under-way : ℕ) where
     waits-kept : finished-by t i x now ≡ [] → waits-from t i under-way (xs ++ (x ∷ [])) ≡ waits-from t i under-way xs
     waits-kept e = waits-next ∙ ap (λ (r : List ℕ). waits-from t i under-way xs ++ r) e ∙ append-nil (waits-from t i under-way xs)
 
-    -- of another thread: nothing is finished, and its entry is counted
+    -- a step of another thread: nothing is finished, and its entry is counted
     pub other-turn : (m a w l : ℕ) → x .thread ≢ i → Tallied t under-way xs i m a w l → Tallied t under-way (xs ++ (x ∷ [])) i m a w l
     unfolding finished-by under-way-after enters begun begins counted
     other-turn m a w l other T =
@@ -85,7 +85,7 @@ module _ (t : Tree) (i under-way : ℕ) where
         by true f (suc k) (inr z) = rw f (inr (omega arith, (omega (arith, z .1 .0), z .1 .1)))
         by false f (suc k) (inr z) = rw f (inr (omega arith, (omega (arith, z .1 .0), z .1 .1)))
 
-    -- of the thread itself, by whether the step begins an attempt and whether it enters
+    -- a step of the thread itself, by whether it begins an attempt and whether it enters
     module _ (mine : x .thread ≡ i) (m a w l : ℕ) (T : Tallied t under-way xs i m a w l) where
       own-finishes : (b e : Bool) → begins-from t i (x .place) ≡ b → is-entry (x .kind) ≡ e → finished-by t i x now ≡ cond e (finished (cond b 1 now)) []
       unfolding finished-by enters begun begins
@@ -100,7 +100,7 @@ module _ (t : Tree) (i under-way : ℕ) where
           Tallied t under-way (xs ++ (x ∷ [])) i m′ a w l
       own-keeps e m′ g none M = keeps m m′ a w l T (waits-kept none) (rw g M)
 
-      -- one is finished, with this wait
+      -- if an attempt is finished, with this wait
       adds :
           (k v : ℕ) → finished-by t i x now ≡ k ∷ [] → v ≡ k → under-way-from t i under-way (xs ++ (x ∷ [])) ≡ 0 →
           Tallied t under-way (xs ++ (x ∷ [])) i 0 (a + 1) (w + v) (max l v)

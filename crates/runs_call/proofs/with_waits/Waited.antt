@@ -1,4 +1,4 @@
--- From what the refusals and the run in pieces answer to the answers of a run with waits.
+-- The answers of a run with waits, from those of the refusals and the run in pieces.
 use mathlib.Core.Path.{_≡_, sym, ap, _∙_}
 use mathlib.Core.List.{List, _++_}
 use Prim.Native.Nat.{ℕ, zero, suc, _+_, _-_, _*_, _≤_}
@@ -36,13 +36,13 @@ use Rattle.runs_call.proofs.with_waits.Pieces.{threads-few}
 use Rattle.lock.proofs.steps.SoFar.{counts-kinds}
 use Rattle.lock.specs.Steps.Running.{kinds-of, counts-by, trace-front}
 
--- zeros without the first of them
+-- zeros without the first ones
 drop-zeros : (m n : ℕ) → drop {A = ℕ} n (replicate m 0) ≡ replicate (m - n) 0
 drop-zeros m zero = let z : m - 0 ≡ m = omega arith in rw z
 drop-zeros zero (suc n) = let z : 0 - suc n ≡ 0 = omega arith in rw z
 drop-zeros (suc m) (suc n) = let z : suc m - suc n ≡ m - n = omega arith in rw z (drop-zeros m n)
 
--- an accepted call: the run passes, the rows fit, and the numbers may be handed in
+-- an accepted call: the run passes, the rows fit, and the numbers are valid
 good :
     (t : Tree) (s : LockState) (is : List ℕ) (room n : ℕ) (us : List ℕ) → waits-on-refusal t s is room n us .number ≡ 0 →
     (run-refusal t s is room .number ≡ 0) × ((5 * (t .threads + 1) ≤ n) × Handed-in us)
@@ -77,7 +77,7 @@ module _ (w : TreeWords) (s : LockState) (is b rs us : List ℕ) (r : Refusal) (
     pub waits-threads-few : tree-of w .threads ≤ 256
     waits-threads-few = threads-few w (run-facts (tree-of w) s is (length b) (waits-pass .0) .tree)
 
-    -- numbers stored at the front of a buffer that has room for them
+    -- numbers stored at the front of a buffer that is long enough
     stored : (xs l l′ : List ℕ) → l′ ≡ sets l 0 xs → length xs ≤ length l → l′ ≡ xs ++ drop (length xs) l
     stored xs l l′ f h =
         let z0 : 0 + length xs ≡ length xs = omega arith in

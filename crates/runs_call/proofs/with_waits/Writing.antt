@@ -1,4 +1,4 @@
--- The rows of waits, stored one after another from the tables.
+-- The rows of waits, stored in order from the tables.
 use mathlib.Core.Path.{_≡_, refl, ap, _∙_}
 use mathlib.Core.List.{List, [], _∷_, _++_}
 use Prim.Native.Nat.{ℕ, zero, suc, _+_, _*_, _≤_, _<_, max}
@@ -11,7 +11,7 @@ use Rattle.waits.specs.Rows.{row-with, capped}
 use Rattle.runs_call.specs.WithWaits.Tallies.{table-rows, sum-below, rows-by, number-of, numbers-by}
 use Rattle.runs_call.specs.WithWaits.Waiting.{Small}
 
--- one run of stores after another
+-- stores in a row, and more after them
 sets-join : (l xs ys : List ℕ) (at : ℕ) → sets l at (xs ++ ys) ≡ sets (sets l at xs) (at + length xs) ys
 sets-join l [] ys at = let z : at + 0 ≡ at = omega arith in rw z
 sets-join l (x ∷ xs) ys at = let z : at + suc (length xs) ≡ suc at + length xs = omega arith in rw z (sets-join _ xs ys (suc at))
@@ -21,12 +21,12 @@ unfolding table-rows row-with
 rows-long zero A W L = refl
 rows-long (suc k) A W L = length-append (table-rows k A W L) (row-with (getD A k 0) (getD W k 0) (getD L k 0)) ∙ (let e = rows-long k A W L in omega arith)
 
--- a sum that was cut and is cut again
+-- capping one summand first does not change a capped sum
 capped-twice : (a b : ℕ) → capped (capped a + b) ≡ capped (a + b)
 unfolding capped
 capped-twice a b = omega arith
 
--- the rows of the first k threads are stored, and what they add up to is known
+-- the rows of the first k threads are stored, and their sums are known
 pub record Written (threads : ℕ) (A W L before now : List ℕ) (k at attempts totals most : ℕ) : Type 0 where
   pub within : k ≤ threads
   pub place : at ≡ 5 * k
@@ -53,7 +53,7 @@ module _ (threads : ℕ) (A W L b l : List ℕ) (k at a w m : ℕ) (S : Written 
   pub long : length l ≡ length b
   long = ap length (S .stored) ∙ length-sets b 0 (table-rows k A W L)
 
-  -- there is room for one row more
+  -- one more row fits
   pub row-room : 5 * (threads + 1) ≤ length b → at + 5 ≤ length l
   row-room h = omega (arith, S .place, S .within, long)
 
@@ -88,7 +88,7 @@ module _ (threads : ℕ) (A W L b l : List ℕ) (k at a w m : ℕ) (S : Written 
       e ∙ ap (λ (r : List ℕ). sets r at (row-with a w m)) (S .stored)
       ∙ rw (sets-join b (table-rows threads A W L) (row-with (sum-below threads A) (capped (sum-below threads W)) (largest-below threads (λ i. getD L i 0))) 0, ← all, place, ← (S .attempts-add), ← (S .totals-add), ← (S .largest-is))
 
--- THE NUMBERS, stored one after another from the marks
+-- THE NUMBERS, stored in order from the marks
 numbers-long : (k n : ℕ) (M : List ℕ) → length (numbers-by k n M) ≡ k
 unfolding numbers-by
 numbers-long zero n M = refl

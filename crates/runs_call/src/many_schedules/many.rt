@@ -1,4 +1,4 @@
-// Many schedules on one tree, each run from its own fresh lock; of each, one row.
+// Many schedules on one tree, each run from its own fresh lock, with one row each.
 ghost use mathlib.Core.Path.{_≡_};
 ghost use Prim.Native.Nat.{_+_, _*_, _≤_};
 ghost use lib.ListN.{length};
@@ -10,7 +10,7 @@ ghost use Rattle.runs_call.specs.ManySchedules.Numbers.{row-numbers};
 use model::Counts;
 use model::TreeWords;
 
-// Writes a row's eight numbers from a position on.
+// Writes the eight numbers of a row at a position.
 fn put_row(rows: &mut [u32], at: usize, number: u32, place: u32, counts: Counts)
     requires { ⌜ at + 8 ≤ length (now rows) ⌝ }
     ensures { λ r. ⌜ now (rows .exit) ≡ sets (now (rows .entry)) at (row-numbers number place counts) ⌝ }
@@ -25,7 +25,7 @@ fn put_row(rows: &mut [u32], at: usize, number: u32, place: u32, counts: Counts)
     rows[at + 7] = counts.crossed;
 }
 
-// The row of one schedule, run from a fresh lock. The tree and the fresh words pass their tests, so the schedule alone is tested; neither the state after it nor the trace is kept.
+// The row of one schedule, run from a fresh lock. The tree and the fresh words pass their tests, so only the schedule is tested; neither the final state nor the trace is kept.
 fn run_row(tree: TreeWords, schedule: &[u16], trace: &mut [u16], rows: &mut [u32], at: usize)
     requires { ⌜ tree-refusal (tree-of tree) .number ≡ 0 ⌝ }
     requires { ⌜ length (now trace) ≡ 65536 ⌝ }
@@ -79,7 +79,7 @@ fn run_row(tree: TreeWords, schedule: &[u16], trace: &mut [u16], rows: &mut [u32
     put_row(rows, at, 0, 0, lock::steps::run::counts_of(&kinds));
 }
 
-// The rows of all schedules, one after another, with one lent trace buffer for all of them.
+// The rows of all schedules in order, with one borrowed trace buffer for all of them.
 pub(crate) fn run_rows(
     tree: TreeWords,
     lengths: &[u32],

@@ -1,4 +1,4 @@
-// The same on arrays that are lent: the tests, then the loop, which tells each step in one number, and then two numbers for each.
+// The same on borrowed arrays: the tests, then the loop, which reports each step as one number, and then two numbers per step.
 ghost use mathlib.Core.Path.{_≡_};
 ghost use Prim.Native.Nat.{_*_, _/_, _%_, _≤_};
 ghost use lib.ListN.{length};
@@ -14,7 +14,7 @@ use model::Counts;
 use model::TreeWords;
 use refusals::Refusal;
 
-// The domain that a step was at, by its thread's home and what was told of the step.
+// The domain of a step, given its thread's home and the number that reports the step.
 fn domain_of(home: u8, code: u16) -> u16
     ensures { λ r. ⌜ r ≡ row-domain home ((code / 8) % 16) (code / 128) ⌝ }
 {
@@ -28,7 +28,7 @@ fn domain_of(home: u8, code: u16) -> u16
     code / 128
 }
 
-// What the run's loop told of each step, at the front of the rows, as two numbers each, from the last step down: what is still to be read stands before what is written.
+// Replaces the numbers that the run's loop reported, at the front of the rows, by two numbers each. It starts at the last step, so that no number is overwritten before it is read.
 fn spread(homes: &[u8; 256], schedule: &[u16], rows: &mut [u16])
     requires { ⌜ 2 * length (now schedule) ≤ length (now rows) ⌝ }
     requires { ⌜ Threads-fit (now schedule) ⌝ }
@@ -45,7 +45,7 @@ fn spread(homes: &[u8; 256], schedule: &[u16], rows: &mut [u16])
     }
 }
 
-// It meets 4 to 9, 16 and 10 to 13, then 28, then 19.
+// The tests: 4 to 9, 16 and 10 to 13, then 28, then 19.
 fn refusal_of<'s, 'c>(
     tree: TreeWords,
     tails: &'s [u16; 64],
@@ -112,7 +112,7 @@ fn refusal_of<'s, 'c>(
     )
 }
 
-// Number and place of the answer, the run's counts and how many rows were written; refused, zero counts and no rows.
+// Number and place of the answer, the run's counts and the number of rows written; if refused, all counts 0 and no rows.
 pub(crate) struct Told {
     pub number: u32,
     pub place: u32,
@@ -120,7 +120,7 @@ pub(crate) struct Told {
     pub rows: u32,
 }
 
-// The steps of a schedule, told.
+// The steps of a schedule, reported.
 pub(crate) fn run_reported(
     tree: TreeWords,
     tails: &mut [u16; 64],

@@ -1,4 +1,4 @@
-// A run with waits on the arrays that are lent: the tests, then the run in pieces. Refused, every array as it came.
+// A run with waits on borrowed arrays: the tests, then the run in pieces. If refused, every array is unchanged.
 ghost use mathlib.Core.Path.{_≡_};
 ghost use Rattle.model.specs.Laws.{Typed};
 ghost use Rattle.model.specs.Counters.{lock-state};
@@ -10,7 +10,7 @@ use crate::with_waits::waiting;
 use model::Counts;
 use model::TreeWords;
 
-// All of the answer but the state.
+// The answer without the state.
 pub(crate) struct Waited {
     pub number: u32,
     pub place: u32,

@@ -1,4 +1,4 @@
-// A run with waits: the steps are taken in pieces of the schedule, and after each piece its attempts are counted by what its steps were told to be.
+// A run with waits: the steps are taken in pieces of the schedule, and after each piece its attempts are counted from the numbers that report its steps.
 ghost use mathlib.Core.Path.{_≡_};
 ghost use mathlib.Core.Bool.{cond};
 ghost use Prim.Native.Nat.{_+_, _*_, _≤_, _<_, max};
@@ -18,7 +18,7 @@ ghost use Rattle.lock.specs.Steps.Running.{kinds-of, counts-by, trace-front};
 ghost use Rattle.runs_call.specs.WithWaits.Waiting.{kinds-added, ticket-home, mark-at, Fits, Countable, Counted, Small, Marks-of, Handed-in, Marks-fit};
 use model::TreeWords;
 
-// The entries are counted from 2^63 on, so that a mark can stand for every number that may be under way before them.
+// The entries are counted from 2^63 on, so that there is a mark for every number that may be under way before them.
 const FIRST: u64 = 9223372036854775808;
 
 const LARGEST_NUMBER: u64 = 18446744073709551615;
@@ -41,7 +41,7 @@ fn is_ticket_home(ticket_root: u32, home: u8) -> bool
     home == 0
 }
 
-// Whether a step begins an attempt, by its thread's home and the number of its place.
+// Whether a step begins an attempt, given its thread's home and the number of its place.
 fn begins_at(ticket_home: bool, home: u8, place: u16) -> bool
     ensures { λ r. ⌜ r ≡ begins-number «ticket_home» home place ⌝ }
 {
@@ -74,7 +74,7 @@ fn one_more(enters: bool, entered: u64) -> u64
     entered
 }
 
-// The mark of a number under way.
+// The mark for a number under way.
 fn mark_of(number: u64) -> u64
     requires { ⌜ number ≤ most-counted ⌝ }
     ensures { λ r. ⌜ r ≡ mark-of number ⌝ }
@@ -85,7 +85,7 @@ fn mark_of(number: u64) -> u64
     FIRST + 2 - number
 }
 
-// The number under way of a mark.
+// The number under way for a mark.
 fn number_of(entered: u64, mark: u64) -> u64
     requires { ⌜ entered ≤ first + 65536 ⌝ }
     requires { ⌜ mark ≤ entered + 1 ⌝ }
@@ -97,7 +97,7 @@ fn number_of(entered: u64, mark: u64) -> u64
     entered + 2 - mark
 }
 
-// The marks of the numbers handed in.
+// The marks for the given numbers.
 fn set_marks(marks: &mut [u64; 256], under_way: &[u64; 256])
     requires { ⌜ length (now marks) ≡ 256 ⌝ }
     requires { ⌜ Handed-in (now «under_way») ⌝ }
@@ -110,7 +110,7 @@ fn set_marks(marks: &mut [u64; 256], under_way: &[u64; 256])
     }
 }
 
-// The numbers of the threads after the run, by their marks.
+// The numbers of the threads after the run, from their marks.
 fn put_numbers(numbers: &mut [u64; 256], threads: u32, marks: &[u64; 256], entered: u64)
     requires { ⌜ threads ≤ 256 ⌝ }
     requires { ⌜ Marks-fit (now marks) entered ⌝ }
@@ -123,7 +123,7 @@ fn put_numbers(numbers: &mut [u64; 256], threads: u32, marks: &[u64; 256], enter
     }
 }
 
-// The sum of two totals, or the largest number of 64 bits where it is larger.
+// The sum of two totals, or the largest 64-bit number if that is smaller.
 fn capped_sum(a: u64, b: u64) -> u64
     ensures { λ r. ⌜ r ≡ capped (a + b) ⌝ }
 {
@@ -133,7 +133,7 @@ fn capped_sum(a: u64, b: u64) -> u64
     a + b
 }
 
-// One step more in the tables of its thread, by whether it begins an attempt and whether it enters.
+// Counts one more step in the tables of its thread, given whether it begins an attempt and whether it enters.
 fn note(
     marks: &mut [u64; 256],
     attempts: &mut [u64; 256],
@@ -167,7 +167,7 @@ fn note(
     longest[at] = larger(longest[at], wait);
 }
 
-// The steps of a piece, counted one after another; how many entries there are then.
+// Counts the steps of a piece one after another, and returns the number of entries so far.
 fn count_piece(
     tree: TreeWords,
     schedule: &[u16],
@@ -205,7 +205,7 @@ fn count_piece(
     entered
 }
 
-// Writes a row's five numbers from a position on.
+// Writes the five numbers of a row at a position.
 fn put_row(rows: &mut [u64], at: usize, attempts: u64, total: u64, most: u64)
     requires { ⌜ at + 5 ≤ length (now rows) ⌝ }
     ensures { λ r. ⌜ now (rows .exit) ≡ sets (now (rows .entry)) at (row-with attempts total most) ⌝ }
@@ -218,7 +218,7 @@ fn put_row(rows: &mut [u64], at: usize, attempts: u64, total: u64, most: u64)
     rows[at + 4] = mean.denominator;
 }
 
-// A row for each thread from its tables, and the last one for all of them.
+// One row per thread from its tables, and a last row for all threads.
 fn put_rows(
     rows: &mut [u64],
     threads: u32,
@@ -250,7 +250,7 @@ fn put_rows(
     put_row(rows, at, all_attempts, all_totals, most);
 }
 
-// Of each kind, the steps of one piece and of those before it.
+// Adds the steps of a piece, by kind, to those before it.
 fn add_kinds(kinds: &mut [u32; 6], more: &[u32; 6])
     requires { ⌜ counts-by (now kinds) .steps + counts-by (now more) .steps ≤ 65536 ⌝ }
     ensures { λ r. ⌜ now (kinds .exit) ≡ kinds-added (now (kinds .entry)) (now (more .entry)) ⌝ }
@@ -275,7 +275,7 @@ fn piece_end(from: usize, whole: usize) -> usize
     from + 1024
 }
 
-// The run of a whole schedule in pieces on the arrays that are lent, the rows of its waits from the attempts under way and the numbers of those under way after it, and the counters of the domains. What its steps were has room for one piece.
+// The run of a whole schedule in pieces on borrowed arrays: the rows of its waits, starting from the attempts under way; the numbers under way after it; and the counters of the domains. The buffer that reports the steps holds one piece.
 pub(crate) fn run_counted(
     tree: TreeWords,
     tails: &mut [u16; 64],

@@ -1,4 +1,4 @@
--- `text_tree_call::read_text` meets its contract: how far reading came decides: stuck, after the tree before the text's end, or at its end.
+-- `text_tree_call::read_text` meets its contract: how far reading came decides: stuck, after the tree but before the end of the text, or at its end.
 use mathlib.Core.Path.{_∙_}
 use Rattle.text_tree_call.proofs.Answering.{answer-stuck, answer-whole, answer-more}
 use borrow.Author.Needs.{needs}

@@ -1,4 +1,4 @@
--- Cases of waits, in one list: rows by hand, attempts that begin before the run or end after it, both kinds of root, means that reduce, refusals and their order.
+-- Cases of waits, in one list: rows worked out by hand, attempts that begin before the run or end after it, both kinds of root, means that reduce, refusals and their order.
 use mathlib.Core.Path.{_≡_}
 use mathlib.Core.Bool.{Bool, true, false, _&&_, _||_}
 use mathlib.Core.List.{List, [], _∷_, _++_}
@@ -17,7 +17,7 @@ use Rattle.model.specs.Cases.Marked.{tree, at-ticket-root, two-homes, first-ent
 use Rattle.model.specs.Answers.{no-counts}
 use Rattle.waits.specs.Answers.{run-part, waits-answer, waits-trace, waits-rows}
 
--- a call, number and place that it is to answer, and the row buffer after it
+-- a call, the number and place expected, and the row buffer expected after it
 pub record Case : Type 0 where
   pub words : TreeWords
   pub state : LockState
@@ -28,7 +28,7 @@ pub record Case : Type 0 where
   pub place : ℕ
   pub after : List ℕ
 
--- accepted from the words of a state, with these rows at the front of a buffer of sevens, and two numbers after them
+-- accepted from a state with these words, with these rows at the front of a buffer of sevens and two numbers after them
 unfoldable pub rows-given : TreeWords → State → (schedule : List ℕ) → (threads : ℕ) → (rows : List ℕ) → Case
 rows-given w s is n xs =
     record {
@@ -42,27 +42,28 @@ rows-given w s is n xs =
       after = xs ++ replicate 2 7;
     }
 
--- refused: both buffers as they came
+-- refused: both buffers are unchanged
 unfoldable pub refused-from : LockState → (number place : ℕ) → TreeWords → (schedule : List ℕ) → (room row-room : ℕ) → Case
 refused-from s n p w is room m =
     record { words = w; state = s; schedule = is; trace = replicate room 9; rows = replicate m 7; number = n; place = p; after = replicate m 7 }
 
--- from a fresh lock, at place 0
+-- refused from a fresh lock, at place 0
 unfoldable pub refused-with : (number : ℕ) → TreeWords → (schedule : List ℕ) → (room row-room : ℕ) → Case
 refused-with n w is room m = refused-from fresh-lock n 0 w is room m
 
--- fresh words, and all counters 0 but for the entries of domain 1, which are the most that they may be
+-- fresh words, and all counters 0 except the entries of domain 1, which have the largest value
 unfoldable pub full-entries : LockState
 full-entries = lock-state fresh-words (record { entries = set (replicate 64 0) 1 most-counted; tenures = replicate 64 0; longest = replicate 64 0 })
 
--- the state that some entries lead to from fresh
+-- the state after these entries from fresh
 unfoldable pub reached : TreeWords → (schedule : List ℕ) → State
 reached w is = state-after fresh-words (steps (tree-of w) is fresh-words)
 
--- rows: no attempt, and so many attempts without any wait
+-- the row of no attempt
 unfoldable pub no-attempt : List ℕ
 no-attempt = replicate 5 0
 
+-- the row of some attempts without any wait
 unfoldable pub no-wait : (attempts : ℕ) → List ℕ
 no-wait n = n ∷ 0 ∷ 0 ∷ 0 ∷ 1 ∷ []
 
@@ -70,65 +71,70 @@ no-wait n = n ∷ 0 ∷ 0 ∷ 0 ∷ 1 ∷ []
 unfoldable pub taking-turns : List ℕ
 taking-turns = 1 ∷ 0 ∷ 1 ∷ 1 ∷ 1 ∷ 0 ∷ 0 ∷ 0 ∷ 0 ∷ 1 ∷ 1 ∷ 1 ∷ 1 ∷ 0 ∷ 0 ∷ 0 ∷ 1 ∷ 1 ∷ 1 ∷ 1 ∷ []
 
+-- the cases
 unfoldable pub cases : List Case
 cases =
     -- the 22 entries: one attempt each, and nobody enters between its Swap and its entry
     rows-given two-homes fresh-words (first-entries ++ 2 ∷ []) 15 (no-wait 1 ++ no-wait 1 ++ no-wait 1 ++ no-wait 3)
-    -- home at the root: the entry is the Swap itself; the other thread has no attempt
+    -- home at the root: the Swap itself is the entry; the other thread has no attempt
     ∷ rows-given two-in-root fresh-words (0 ∷ 0 ∷ []) 10 (no-wait 1 ++ no-attempt ++ no-wait 1)
-    -- thread 1 has waits 0, 1, 1, 0, which reduce from 2 over 4, thread 0 has 0, 1
+    -- thread 1 has waits 0, 1, 1, 0, with mean 2 over 4 reduced; thread 0 has waits 0, 1
     ∷ rows-given (at-ticket-root two-in-root) fresh-words taking-turns 10 ((2 ∷ 1 ∷ 1 ∷ 1 ∷ 2 ∷ []) ++ (4 ∷ 2 ∷ 1 ∷ 1 ∷ 2 ∷ []) ++ (6 ∷ 3 ∷ 1 ∷ 1 ∷ 2 ∷ []))
-    -- a queue at the root: thread 1 goes behind thread 0, which enters before it; the entry of thread 0 belongs to an attempt from before the run
+    -- a queue root: thread 1 queues after thread 0, which enters first; the entry of thread 0 belongs to an attempt from before the run
     ∷ rows-given two-in-root (reached two-in-root (1 ∷ 1 ∷ 0 ∷ 0 ∷ 0 ∷ [])) (1 ∷ 1 ∷ 1 ∷ 1 ∷ 1 ∷ 1 ∷ 0 ∷ 0 ∷ 0 ∷ 0 ∷ 1 ∷ []) 10 (no-attempt ++ (1 ∷ 1 ∷ 1 ∷ 1 ∷ 1 ∷ []) ++ (1 ∷ 1 ∷ 1 ∷ 1 ∷ 1 ∷ []))
-    -- an attempt that began before the run: its entry is none of its attempts
+    -- an attempt that began before the run: its entry finishes no attempt of the run
     ∷ rows-given two-in-root (reached two-in-root (0 ∷ 0 ∷ 1 ∷ 1 ∷ 1 ∷ [])) (0 ∷ 0 ∷ 0 ∷ 1 ∷ []) 10 (no-attempt ++ no-attempt ++ no-attempt)
-    -- one that the run does not finish
+    -- an attempt that the run does not finish
     ∷ rows-given two-in-root fresh-words (0 ∷ 0 ∷ 1 ∷ 1 ∷ 1 ∷ 0 ∷ []) 10 (no-wait 1 ++ no-attempt ++ no-wait 1)
-    -- an entry of another thread between Prep and Swap is before the attempt
+    -- an entry of another thread between Prep and Swap comes before the attempt
     ∷ rows-given two-in-root fresh-words (1 ∷ 0 ∷ 0 ∷ 1 ∷ 1 ∷ 0 ∷ 0 ∷ 0 ∷ 1 ∷ []) 10 (no-wait 1 ++ no-wait 1 ++ no-wait 2)
-    -- a ticket root that is home: an attempt begins with the draw, which is Idle's own step; the mean of all, 1 over 3, is not that of the two means
+    -- a ticket root that is home: an attempt begins with the draw, a step from Idle; the mean of all, 1 over 3, is not the mean of the two means
     ∷ rows-given (at-ticket-root two-in-root) fresh-words (0 ∷ 1 ∷ 0 ∷ 0 ∷ 0 ∷ 1 ∷ 1 ∷ 1 ∷ 0 ∷ []) 10 ((2 ∷ 1 ∷ 1 ∷ 1 ∷ 2 ∷ []) ++ no-wait 1 ++ (3 ∷ 1 ∷ 1 ∷ 1 ∷ 3 ∷ []))
-    -- a ticket root that is not home: it begins with the Swap at home, before the draw
+    -- a ticket root that is not home: an attempt begins with the Swap at home, before the draw
     ∷ rows-given (at-ticket-root two-homes) fresh-words (0 ∷ 0 ∷ 2 ∷ 2 ∷ 2 ∷ 0 ∷ 2 ∷ 2 ∷ 2 ∷ 0 ∷ []) 15 ((1 ∷ 1 ∷ 1 ∷ 1 ∷ 1 ∷ []) ++ no-attempt ++ no-wait 1 ++ (2 ∷ 1 ∷ 1 ∷ 1 ∷ 2 ∷ []))
-    -- a queue root that is not home: the Swap there begins no attempt, so the entry before it is in the wait of the one that began at home
+    -- a queue root that is not home: the Swap there begins no attempt, so an entry before it counts in the wait of the attempt that began at home
     ∷ rows-given two-homes fresh-words (replicate 2 0 ++ replicate 8 2 ++ replicate 2 0) 15 ((1 ∷ 1 ∷ 1 ∷ 1 ∷ 1 ∷ []) ++ no-attempt ++ no-wait 1 ++ (2 ∷ 1 ∷ 1 ∷ 1 ∷ 2 ∷ []))
     -- three levels, a crossed entry: the Swap between home and root begins no attempt
     ∷ rows-given three-levels fresh-words (replicate 6 0 ++ replicate 6 1 ++ replicate 4 0 ++ 1 ∷ []) 10 (no-wait 1 ++ no-wait 1 ++ no-wait 2)
-    -- no entries
+    -- an empty schedule
     ∷ rows-given two-in-root fresh-words [] 10 (no-attempt ++ no-attempt ++ no-attempt)
-    -- a part of the last row is missing, and no buffer
+    -- the last row is incomplete, and an empty buffer
     ∷ refused-with 18 two-in-root (0 ∷ 0 ∷ []) 2 14
     ∷ refused-with 18 two-in-root [] 0 0
-    -- 12 and 13 before 18, and a thread that is none before the trace buffer
+    -- 12 and 13 come before 18, and 12 before 13
     ∷ refused-with 13 two-in-root (0 ∷ 0 ∷ []) 1 0
     ∷ refused-with 12 two-in-root (2 ∷ []) 0 14
     ∷ refused-with 5 (tree 1 0 (0 ∷ []) (0 ∷ []) []) [] 0 0
-    -- an entry would push a counter past 2^63: 13 and 18 before 19, and 19 at the entry's position where the rows suffice
+    -- an entry would raise a counter above 2^63: 13 and 18 come before 19; 19 has the entry's position if the buffers are long enough
     ∷ refused-from full-entries 13 0 two-homes (replicate 4 0) 3 20
     ∷ refused-from full-entries 18 0 two-homes (replicate 4 0) 4 19
     ∷ refused-from full-entries 19 3 two-homes (replicate 4 0) 4 20 ∷ []
 
--- WHEN A LINE HOLDS, of the run's reply and of both buffers after it. Refused, zero counts, and state and trace as they came
+-- WHEN A LINE HOLDS: the run's reply and both buffers after it. If refused: all counts 0, state and trace unchanged
 abbrev pub nothing-done : RunReply → (traced : List ℕ) → Case → Bool
 nothing-done r tr c = (same-counts (r .counts) no-counts && same-lock (r .state) (c .state)) && same-numbers tr (c .trace)
 
+-- number, place and rows are as expected, and a refused call has changed nothing
 abbrev pub answered : RunReply → (traced rows : List ℕ) → Case → Bool
 answered r tr xs c =
     ((eqb (r .number) (c .number) && eqb (r .place) (c .place)) && (eqb (r .number) 0 || nothing-done r tr c)) && same-numbers xs (c .after)
 
+-- whether a case holds
 unfoldable pub holds : Case → Bool
 holds c =
     answered (run-part (waits-answer (c .words) (c .state) (c .schedule) (c .trace) (c .rows))) (waits-trace (c .words) (c .state) (c .schedule) (c .trace) (c .rows))
     (waits-rows (c .words) (c .state) (c .schedule) (c .trace) (c .rows)) c
 
+-- whether every case of a list holds
 unfoldable pub all-hold : List Case → Bool
 all-hold [] = true
 all-hold (c ∷ cs) = holds c && all-hold cs
 
--- EVERY PART COUNTS: the right answer to a refused line, and answers that are wrong in the number, the place, the counts, the state, the trace and the rows alone
+-- EVERY PART MATTERS: the right answer to a refused case, and answers that are wrong only in the number, the place, the counts, the state, the trace or the rows. A reply with these parts
 abbrev pub reply : (number place stays : ℕ) → LockState → RunReply
 reply n p k s = record { number = n; place = p; counts = record { steps = 0; entries = 0; stays = k; root = 0; passed = 0; crossed = 0 }; state = s }
 
+-- whether each of them is accepted for the case
 unfoldable pub parts : List Bool
 parts =
     let c = refused-with 18 two-in-root (0 ∷ 0 ∷ []) 2 3 in
@@ -142,5 +148,6 @@ parts =
     ∷ answered (reply 18 0 0 fresh-lock) (0 ∷ 9 ∷ []) rows c
     ∷ answered (reply 18 0 0 fresh-lock) trace (7 ∷ 7 ∷ 0 ∷ []) c ∷ []
 
+-- only the right answer is
 unfoldable pub Every-part : Type 0
 Every-part = parts ≡ true ∷ replicate 6 false

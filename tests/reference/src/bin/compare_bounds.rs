@@ -1,4 +1,4 @@
-//! Compares the library's calls of allowances, rounds and longest waits with the reference's, each number cut at the largest of 64 bits; without the library it only counts what the cases meet.
+//! Compares the library's calls for allowances, rounds and longest waits with the reference's. Each number is capped at the largest 64-bit number. Without the library it only counts what the cases cover.
 
 use reference::bounds::{allowances, rounds, wait_bounds, Allowances, Rounds, RoundsReply, WaitBounds};
 use reference::library;
@@ -13,7 +13,7 @@ use std::process::exit;
 
 type Calls = (Allowances, Rounds, WaitBounds);
 
-/// The answers of the allowances, the rounds and the longest waits, and the two buffers, which hold other words before the calls.
+/// The answers for the allowances, the rounds and the longest waits, and the two buffers. The buffers hold other words before the calls.
 #[derive(Debug, PartialEq, Eq)]
 struct Told {
     allowances: (u32, u32),
@@ -32,7 +32,7 @@ fn make(calls: Calls, tree: &TreeWords, seed: u64) -> Told {
     Told { allowances, domains, rounds: calls.1(tree), waits, threads }
 }
 
-/// How many numbers of accepted trees were cut, and how many others were above 32 bits.
+/// How many numbers of accepted trees were capped, and how many others were above 32 bits.
 #[derive(Default)]
 struct Sizes {
     cut: usize,
@@ -45,7 +45,7 @@ impl Sizes {
         self.whole += numbers.iter().filter(|&&number| number > u32::MAX as u64 && number < u64::MAX).count();
     }
 
-    /// What was counted, and whether both were met.
+    /// Prints the counts, and returns whether both occurred.
     fn print(&self, name: &str) -> bool {
         println!("{} {name} cut, {} others above 32 bits", self.cut, self.whole);
         self.cut > 0 && self.whole > 0

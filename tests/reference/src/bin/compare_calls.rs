@@ -1,4 +1,4 @@
-//! Compares the library's calls on a caller's tree and state, a run that tells its steps among them, with the step table's; without the library it only counts what the cases meet.
+//! Compares the library's calls on a caller's tree and state, including a run with kinds, with the step table's. Without the library it only counts what the cases cover.
 
 use reference::calls::{Calls, TABLE};
 use reference::kinds::ROW;
@@ -28,7 +28,7 @@ enum Call {
     CheckSteps,
 }
 
-/// What one call is given; the buffers of trace and kinds stand between canaries.
+/// The input of one call. The buffers for trace and kinds are between canaries.
 struct Case {
     call: Call,
     tree: TreeWords,
@@ -40,14 +40,14 @@ struct Case {
     named: Named,
 }
 
-/// Kinds and domains as they are named for the schedule's steps: those of the table, at times with one of them changed or one missing.
+/// The kinds and domains given for the schedule's steps: those of the table, sometimes with one changed or one missing.
 #[derive(Default)]
 struct Named {
     kinds: Vec<u16>,
     domains: Vec<u16>,
 }
 
-/// What a call returned and left in its buffers; a call that is no run has no counts, and one that is no step tells no kind and no domain.
+/// What a call returned and left in its buffers. Only a run has counts, and only a step has a kind and a domain.
 #[derive(PartialEq, Eq)]
 struct Left {
     reply: RunReply,
@@ -117,7 +117,7 @@ fn case_state(random: &mut Random, words: &TreeWords, length: usize) -> StateWor
     state
 }
 
-/// At times too long, at times with an entry that names no thread; never empty, for a step takes its first entry.
+/// Sometimes too long, sometimes with an entry that names no thread. Never empty, because a step takes its first entry.
 fn case_schedule(random: &mut Random, mut schedule: Vec<u16>, threads: u32) -> Vec<u16> {
     if random.one_in(500) {
         schedule.resize(LONGEST_SCHEDULE + random.below(2), 0);

@@ -1,5 +1,5 @@
-//! Compares the library's chain with the one in Rust, on states of a caller; and tries on states reached from fresh what is said of their chains.
-//! Without the library it does the latter and counts what the cases meet.
+//! Compares the library's chain with the one in Rust, on states of a caller. Also tests, on states reached from fresh, what the document says of their chains.
+//! Without the library it only does the second part and counts what the cases cover.
 
 use reference::chain::{chain, chain_words, Broken, ChainAnswer, ChainCall};
 use reference::counters::MOST_COUNTED;
@@ -18,7 +18,7 @@ use std::process::exit;
 const CANARY: usize = 16;
 const REFUSALS: [usize; 11] = [4, 5, 6, 7, 8, 9, 16, 10, 12, 20, 21];
 
-/// What one call is given; the chain buffer stands between canaries.
+/// The input of one call. The chain buffer is between canaries.
 struct Case {
     tree: TreeWords,
     state: StateWords,
@@ -27,8 +27,8 @@ struct Case {
     buffer: Vec<u16>,
 }
 
-/// What the cases met, for each kind of root: reasons for 21, chains of three threads or more of states that are reached and of others, and, where it was tried what a
-/// thread behind can do, links from Wait, Linger and Watch and steps of others that moved; and chains of states with a counter of 2^63.
+/// What the cases covered, for each kind of root: reasons for 21, chains of three or more threads in reached states and in others, and chains in states with a counter of 2^63.
+/// When the steps of a waiting thread are tested: links from Wait, Linger and Watch, and moves of other threads.
 #[derive(Default)]
 struct ChainMet {
     nobody: [u64; 2],
@@ -62,7 +62,7 @@ impl ChainMet {
     }
 }
 
-/// A state with some words of another; mostly well formed, where both are.
+/// A state with some words of another. It is usually well formed if both are.
 fn mixed(random: &mut Random, tree: &Tree, mut state: State, other: &State) -> State {
     for _ in 0..random.between(1, 4) {
         let thread = random.below(tree.threads);
@@ -77,7 +77,7 @@ fn mixed(random: &mut Random, tree: &Tree, mut state: State, other: &State) -> S
     state
 }
 
-/// A reached state and random steps after it until one lingers, if one does soon.
+/// A reached state followed by random steps until a thread lingers, if one does soon.
 fn until_lingering(random: &mut Random, tree: &Tree) -> State {
     let mut state = reached(random, tree);
     for _ in 0..400 {
@@ -89,7 +89,7 @@ fn until_lingering(random: &mut Random, tree: &Tree) -> State {
     state
 }
 
-/// The state, and whether its words are reached from fresh.
+/// The state, and whether its words were reached from fresh.
 fn case_state(random: &mut Random, words: &TreeWords) -> (StateWords, bool) {
     let tree = words.tree();
     if accept_tree(&tree).is_err() {
@@ -109,7 +109,7 @@ fn case_state(random: &mut Random, words: &TreeWords) -> (StateWords, bool) {
             mixed(random, &tree, one, &other)
         }
     };
-    // a chain takes no step, so that counters at 2^63 change nothing of it
+    // a chain takes no step, so counters at 2^63 do not change it
     if random.one_in(4) {
         state.counters = random_counters(random, &tree);
     }
@@ -120,7 +120,7 @@ fn case_state(random: &mut Random, words: &TreeWords) -> (StateWords, bool) {
     (state, from_fresh)
 }
 
-/// Mostly a thread whose place is one that can stay, at times none of the tree's.
+/// Usually a thread in a place that can stay, sometimes a thread that is not in the tree.
 fn case_thread(random: &mut Random, tree: &TreeWords, state: &StateWords) -> u16 {
     if random.one_in(20) {
         return random.pick(&[tree.threads as u16, 256, 65_535]);
@@ -156,7 +156,7 @@ fn make(call: ChainCall, case: &Case) -> (ChainAnswer, Vec<u16>) {
     (answer, buffer)
 }
 
-/// A continuation without the thread ahead, in a style; the thread behind takes its turn often.
+/// A continuation in some style without the thread ahead. The thread after it takes turns often.
 fn continuation(random: &mut Random, tree: &Tree, behind: u16, ahead: u16) -> Vec<u16> {
     let (style, length) = (random.pick(&STYLES), random.between(1, 120));
     let mut entries = schedule(random, tree, style, length);
@@ -168,7 +168,7 @@ fn continuation(random: &mut Random, tree: &Tree, behind: u16, ahead: u16) -> Ve
     entries
 }
 
-/// While the thread ahead takes no step, the next step of the one after it is a stay: before, between and after the entries. How many of them moved, or none where it is not so.
+/// While the thread ahead takes no step, the next step of the thread after it is a stay: before, between and after the entries. Returns how many entries were moves, or none if this fails.
 fn only_stays(random: &mut Random, tree: &Tree, state: &State, behind: u16, ahead: u16) -> Option<u64> {
     let mut state = state.clone();
     let mut moved = 0;
@@ -181,7 +181,7 @@ fn only_stays(random: &mut Random, tree: &Tree, state: &State, behind: u16, ahea
     (step(tree, &mut state, behind as usize) == Kind::Stay).then_some(moved)
 }
 
-/// What is said of the chains of a state reached from fresh, on a random continuation for each link.
+/// Tests what the document says of the chains in a state reached from fresh, on a random continuation for each link.
 fn try_links(random: &mut Random, case: &Case, found: &[u16], met: &mut ChainMet) -> Result<(), String> {
     let (tree, state) = (case.tree.tree(), case.state.state().expect("reached"));
     let root = tree.ticket_root as usize;
@@ -208,7 +208,7 @@ fn try_links(random: &mut Random, case: &Case, found: &[u16], met: &mut ChainMet
     Ok(())
 }
 
-/// Why it is refused by 21, by the definition alone.
+/// Counts why 21 refuses, by the definition alone.
 fn count_broken(case: &Case, met: &mut ChainMet) {
     let (tree, state) = (case.tree.tree(), case.state.state().expect("well formed"));
     let root = tree.ticket_root as usize;

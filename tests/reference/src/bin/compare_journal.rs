@@ -1,5 +1,5 @@
-//! Compares the library's check of a journal with the step table's: journals of random steps, whole and damaged; without the library it only
-//! counts what the cases meet.
+//! Compares the library's check of a journal with the step table's, on journals of random steps, whole and damaged. Without the library it only
+//! counts what the cases cover.
 
 use reference::journal::{check_journal, write_journal, CheckJournal, JournalAnswer};
 use reference::library;
@@ -12,7 +12,7 @@ use reference::schedules::{schedule, STYLES};
 use reference::words::TreeWords;
 use std::process::exit;
 
-/// As many steps as the library takes at a time.
+/// The number of steps that the library takes at a time.
 const PIECE: usize = 1_024;
 
 struct Case {
@@ -20,7 +20,7 @@ struct Case {
     journal: Vec<u8>,
 }
 
-/// Few steps in most journals, in some about one, two or three pieces.
+/// A few steps for most journals, and about one, two or three pieces for some.
 fn random_length(random: &mut Random) -> usize {
     match random.below(40) {
         0 => 0,
@@ -30,7 +30,7 @@ fn random_length(random: &mut Random) -> usize {
     }
 }
 
-/// One byte changed, put in or left out, the end cut off, a bit map with another bit, a thread that the tree may lack, another kind, or bytes behind.
+/// Changes, inserts or removes one byte, cuts off the end, sets another bit in a bit map, names a thread that may not be in the tree, changes a kind, or adds bytes at the end.
 fn damage(random: &mut Random, journal: &mut Vec<u8>, begins: &[usize]) {
     if begins.is_empty() {
         journal.extend([random.pick(&[0, 1, 2, 3, 4, 255])]);
@@ -85,7 +85,7 @@ fn compare(library: Option<CheckJournal>, case: &Case) -> JournalAnswer {
     answer
 }
 
-/// A journal of 10,000 random steps is accepted, and then each of its bytes has another value.
+/// A journal of 10,000 random steps is accepted. Then each of its bytes in turn gets another value.
 fn one_byte_changed(random: &mut Random, library: Option<CheckJournal>) {
     let draft = valid_draft(random);
     let tree = tree_words(random, &draft);
@@ -121,7 +121,7 @@ fn main() {
         let case = random_case(&mut random);
         let answer = compare(library, &case);
         met.count(answer.number);
-        // An entry has at most four bytes, so these are after the first piece.
+        // An entry has at most four bytes, so these places are after the first piece.
         if case.journal.len() > 4 * PIECE && (answer.number == 0 || answer.place > 4 * PIECE) {
             met_behind.count(answer.number);
         }

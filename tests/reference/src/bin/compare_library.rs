@@ -1,6 +1,6 @@
-//! Compares the library's file call with the step table's on random lock files; without the library it only counts what the files meet.
-//! Each file is read without its run, by the library where it was built with the calls, into a buffer that is a little shorter or longer than its schedule.
-//! Each file that is accepted is read, written again, by the library where it was built with the calls, and read again: the same, and never longer.
+//! Compares the library's file call with the step table's on random lock files. Without the library it only counts what the files cover.
+//! Each file is also read without running it, into a buffer a little shorter or longer than its schedule. The library does this if the program was built with the calls.
+//! Each accepted file is read, written again and read again. The result must be the same and never longer. The library writes it if the program was built with the calls.
 
 use reference::file_writer::{self, wrong_when_written_again};
 use reference::library::{self, RunFile};
@@ -15,7 +15,7 @@ use std::process::exit;
 const CANARY: usize = 64;
 const REFUSALS: [usize; 12] = [1, 2, 3, 4, 5, 6, 7, 8, 9, 16, 12, 14];
 
-/// The length of the output buffer: by itself, or by how much it differs from the listing's.
+/// The length of the output buffer: a fixed length, or the difference from the listing's length.
 #[derive(Clone, Copy, Debug)]
 enum Room {
     Length(usize),
@@ -65,7 +65,7 @@ fn results(library: RunFile, file: &[u8], room: Room, seed: u64) -> (Result, Res
     (result(lock_file::run_file, file, buffer.clone()), result(library, file, buffer))
 }
 
-/// What reading without a run returns, and the schedule's buffer with what stands after it.
+/// What reading without running returns, and the schedule buffer with the slots after it.
 fn read_into(read_file: ReadFile, file: &[u8], room: usize) -> (ReadReply, Vec<u16>) {
     let mut buffer = vec![0x5A5A; room + CANARY];
     let reply = read_file(file, &mut buffer[..room]);

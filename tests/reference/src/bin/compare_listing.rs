@@ -1,4 +1,4 @@
-//! Compares the step table with Listing 1, and at a ticket root with Listing 1 whose second template is the ticket lock, on random trees and schedules.
+//! Compares the step table with Listing 1 on random trees and schedules. At a ticket root, the ticket lock replaces Listing 1's second template.
 
 use reference::draft::{random_draft, Draft, Size};
 use reference::options::Options;
@@ -32,7 +32,7 @@ fn main() {
     println!("no difference");
 }
 
-/// What the schedules at one kind of root were.
+/// What the schedules at one kind of root covered.
 struct Seen {
     name: &'static str,
     depths: [u64; DEEPEST_LEVEL as usize],
@@ -56,7 +56,7 @@ fn depth(tree: &Tree) -> usize {
     (0..tree.threads).map(|thread| levels[tree.home(thread)] as usize).max().unwrap_or(1)
 }
 
-/// Mostly small; now and then many threads, or a long schedule.
+/// Usually small. Sometimes many threads, or a long schedule.
 fn random_case(random: &mut Random) -> Draft {
     let many = random.one_in(200);
     let size = Size { domains: random.pick(&[1, 3, 8, 8, 16, 64]), threads: if many { 256 } else { random.pick(&[2, 4, 4, 8]) } };
@@ -67,7 +67,7 @@ fn random_case(random: &mut Random) -> Draft {
     draft
 }
 
-/// The state after the run is also well formed: unused room keeps the fresh words.
+/// The state after the run must also be well formed: unused slots keep the fresh words.
 fn compare_one(draft: &Draft, start: u16, coverage: &mut Coverage) -> Result<(), Difference> {
     let tree = draft.tree();
     let state = compare(&tree, start, &draft.schedule, coverage)?;

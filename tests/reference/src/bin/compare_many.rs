@@ -1,5 +1,5 @@
-//! Compares the library's call of many schedules with the step table's, and each row of an accepted call with the run of its schedule alone; without
-//! the library it only counts what the cases meet.
+//! Compares the library's call for many schedules with the step table's, and each row of an accepted call with a run of its schedule alone. Without
+//! the library it only counts what the cases cover.
 
 use reference::calls::{Calls, TABLE};
 use reference::library;
@@ -15,7 +15,7 @@ use std::process::exit;
 
 const CANARY: usize = 16;
 
-/// What one call is given; the row buffer stands between canaries.
+/// The input of one call. The row buffer is between canaries.
 struct Case {
     tree: TreeWords,
     lengths: Vec<u32>,
@@ -23,7 +23,7 @@ struct Case {
     rows: Vec<u32>,
 }
 
-/// A schedule's entries: none, few, at times as many as are allowed or one more, at times one that names no thread.
+/// The entries of a schedule: none, a few, sometimes the most allowed or one more, sometimes with one that names no thread.
 fn random_schedule(random: &mut Random, threads: u32) -> Vec<u16> {
     let length = match random.below(2_000) {
         0 => LONGEST_SCHEDULE + random.below(2),
@@ -39,7 +39,7 @@ fn random_schedule(random: &mut Random, threads: u32) -> Vec<u16> {
     schedule
 }
 
-/// Lengths that add up to one too many or too few, or to as many only modulo 2^32.
+/// Makes the lengths add up to one too many or too few, or to the right sum only modulo 2^32.
 fn spoil(random: &mut Random, lengths: &mut Vec<u32>, entries: &mut Vec<u16>) {
     match random.below(5) {
         0 => entries.push(0),
@@ -79,7 +79,7 @@ fn make(call: RunMany, case: &Case) -> ((u32, u32, usize), Vec<u32>) {
     (answer, rows)
 }
 
-/// The first row that is not what the run of its schedule alone answers, from a fresh state and with a trace buffer of its length.
+/// The first row that differs from the answer of a run of its schedule alone, from a fresh state and with a trace buffer of the schedule's length.
 fn unlike_alone(calls: Calls, case: &Case, rows: &[u32]) -> Option<usize> {
     let fresh = StateWords::fresh();
     let mut rest = &case.entries[..];

@@ -1,4 +1,4 @@
-//! Compares what the program prints, given a lock file on standard input, with what the step table's prints; HMCS_PROGRAM names the program.
+//! Compares what the program prints for a lock file on standard input with what the step table's program prints. HMCS_PROGRAM names the program.
 
 use reference::lock_file::print;
 use reference::options::Options;
@@ -9,7 +9,7 @@ use std::env;
 use std::io::Write;
 use std::process::{exit, Command, Stdio};
 
-/// A program that stops reading at a file that is too long makes the writing fail, which is no difference.
+/// If the program stops reading a file that is too long, the write fails. This does not count as a difference.
 fn printed(program: &str, file: &[u8]) -> Vec<u8> {
     let mut child = Command::new(program).stdin(Stdio::piped()).stdout(Stdio::piped()).spawn().expect("the program starts");
     let mut input = child.stdin.take().expect("its standard input");

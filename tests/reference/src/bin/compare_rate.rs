@@ -1,5 +1,5 @@
-//! Compares the library's rate with the one written from document 02, bit for bit: every pair of edge thresholds with every three of edge times, and
-//! random inputs; without the library it only counts what the inputs meet.
+//! Compares the library's rate with the one written from document 02, bit for bit: every pair of edge thresholds with every three edge times, and
+//! random inputs. Without the library it only counts what the inputs cover.
 
 use reference::library;
 use reference::met::Met;
@@ -12,7 +12,7 @@ const LEAST: f64 = 1.0 / 1024.0;
 const MOST: f64 = 1_048_576.0;
 const THRESHOLDS: [u16; 5] = [0, 1, 2, 255, 65_535];
 
-/// Both ends of the range with the floats beside them, others within it, and what is no number of the range.
+/// Both ends of the range with the floats next to them, others within the range, and numbers outside it.
 fn edge_times() -> Vec<f64> {
     let beside = |end: f64| [-1, 0, 1].map(|step| f64::from_bits((end.to_bits() as i64 + step) as u64));
     let ends = [LEAST, MOST].into_iter().flat_map(beside);
@@ -30,7 +30,7 @@ fn random_threshold(random: &mut Random) -> u16 {
     }
 }
 
-/// Mostly within the range, each power of two as likely as another; at times an edge, at times any bits.
+/// Usually within the range, with each power of two equally likely. Sometimes an edge, sometimes any bits.
 fn random_time(random: &mut Random, edges: &[f64]) -> f64 {
     match random.below(40) {
         0 => f64::from_bits(random.word()),
@@ -39,7 +39,7 @@ fn random_time(random: &mut Random, edges: &[f64]) -> f64 {
     }
 }
 
-/// The number of the answer, which the library's has to equal.
+/// The number of the answer. The library's answer must be equal.
 fn compare(library: Option<RateCall>, h1: u16, h2: u16, times: PassingTimes) -> u32 {
     let own = reply(h1, h2, times);
     if let Some(other) = library.map(|call| call(h1, h2, times)).filter(|&other| !same(own, other)) {

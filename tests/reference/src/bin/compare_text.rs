@@ -1,5 +1,5 @@
-//! Compares the library's reader of texts with the reference's: all short texts, and long random ones, each damaged at each place.
-//! Without the library it only counts what the texts meet.
+//! Compares the library's text reader with the reference's, on all short texts and on long random ones, each damaged at every position.
+//! Without the library it only counts what the texts cover.
 
 use reference::library::{self, ReadText};
 use reference::options::{conclude, Options};
@@ -8,11 +8,11 @@ use reference::random_text::{random_text, ALPHABET};
 use reference::text_tree;
 use std::process::exit;
 
-/// All texts up to so many bytes over these: with 0 and 9, thresholds and counts come to their limits within nine bytes.
+/// All texts up to this length over these letters. With 0 and 9, thresholds and counts reach their limits within nine bytes.
 const LONGEST: usize = 9;
 const LETTERS: [u8; 7] = *b"()# 09x";
 
-/// How often each number was met: accepted, 4, 5, 15.
+/// How often each number occurred: accepted, 4, 5, 15.
 #[derive(Default)]
 struct Met([u64; 4]);
 
@@ -48,7 +48,7 @@ fn compare(library: ReadText, text: &[u8], met: &mut Met) {
     }
 }
 
-/// All texts of a length that begin as is said.
+/// Compares all texts of this length that begin with this text.
 fn compare_all(library: ReadText, text: &mut Vec<u8>, length: usize, met: &mut Met) {
     if text.len() == length {
         compare(library, text, met);
@@ -61,7 +61,7 @@ fn compare_all(library: ReadText, text: &mut Vec<u8>, length: usize, met: &mut M
     }
 }
 
-/// Each length with each first letter by itself, shared out among the threads.
+/// Each pair of a length and a first letter is one part. The parts are shared among the threads.
 fn compare_short(library: ReadText) -> Met {
     let mut parts: Vec<(usize, Vec<u8>)> = vec![(0, Vec::new())];
     for length in 1..=LONGEST {
@@ -84,7 +84,7 @@ fn compare_short(library: ReadText) -> Met {
     met
 }
 
-/// At each place the text cut, a byte left out, another byte for it, and a byte put in.
+/// At each position, cuts the text, removes a byte, replaces it by another, and inserts a byte.
 fn compare_damaged(library: ReadText, text: &[u8], random: &mut Random, met: &mut Met) {
     let mut byte = || if random.one_in(8) { random.word() as u8 } else { random.pick(&ALPHABET) };
     for place in 0..=text.len() {

@@ -1,4 +1,4 @@
-//! Compares the figures of the command's words with the step table's, on random lock files; HMCS_TOOL names the command.
+//! Compares the numbers that the command prints with the step table's, on random lock files. HMCS_TOOL names the command.
 
 use reference::file_writer::shortest;
 use reference::options::Options;
@@ -23,7 +23,7 @@ impl Tool {
         Command::new(&self.program).current_dir(&self.folder).args(words).output().expect("the command starts")
     }
 
-    /// What an accepted command prints.
+    /// What the command prints if it accepts its arguments.
     fn printed(&self, words: &[&str]) -> Result<String, String> {
         let output = self.run(words);
         if output.status.code() != Some(0) {
@@ -40,7 +40,7 @@ impl Tool {
         Err(format!("{words:?} prints\n{printed}and by the step table it is\n{expected}"))
     }
 
-    /// The lines after the first one, each beginning with a text.
+    /// The lines after the first one must each begin with the expected text.
     fn compare_lines(&self, words: &[&str], expected: &[String]) -> Result<(), String> {
         let printed = self.printed(words)?;
         let lines: Vec<&str> = printed.lines().skip(1).collect();
@@ -49,7 +49,7 @@ impl Tool {
     }
 }
 
-/// Refused with the number, the place and the status of a refusal, and nothing on standard output.
+/// The command must refuse with the number, the place and the exit status of a refusal, and print nothing on standard output.
 fn compare_refused(tool: &Tool, file: &[u8], words: &[&str]) -> Result<(), String> {
     let Err(refusal) = accept(file) else { return Ok(()) };
     let output = tool.run(words);
@@ -83,7 +83,7 @@ fn compare_steps(tool: &Tool, accepted: &Accepted) -> Result<(), String> {
     same.then_some(()).ok_or_else(|| format!("steps prints\n{printed}and by the step table it is {expected:?}"))
 }
 
-/// Some domains of the tree together, and some thresholds, each at most once.
+/// Sweeps some domains of the tree together, each named at most once, over some thresholds.
 fn compare_sweep(tool: &Tool, random: &mut Random, accepted: &Accepted) -> Result<(), String> {
     if accepted.tree.domains == 1 {
         return Ok(());
@@ -114,7 +114,7 @@ fn compare_sweep(tool: &Tool, random: &mut Random, accepted: &Accepted) -> Resul
     (lines == expected).then_some(()).ok_or_else(|| format!("{words:?} prints\n{printed}and by the step table it is\n{}", expected.join("\n")))
 }
 
-/// The tree of the file with a schedule that is made on the spot is the shortest file of the two.
+/// The file made from the tree of a file and a generated schedule must be the shortest file of the two.
 fn compare_made(tool: &Tool, random: &mut Random, tree: &Tree) -> Result<(), String> {
     let (count, seed, length) = (random.below(300), random.word(), random.pick(&[1, 2, 7, 40]));
     let word = if length == 1 { format!("random:{count}:{seed}") } else { format!("bursts:{count}:{seed}:{length}") };
@@ -124,7 +124,7 @@ fn compare_made(tool: &Tool, random: &mut Random, tree: &Tree) -> Result<(), Str
     (made == expected).then_some(()).ok_or_else(|| format!("make of {word} writes {made:?}, and it is {expected:?}"))
 }
 
-/// An even tree of two or three levels as text, and how many members a domain of each level below the root has.
+/// An even tree of two or three levels as text, and how many members a domain on each level below the root has.
 fn even_tree(random: &mut Random) -> (String, Vec<usize>) {
     let sizes: Vec<usize> = (0..random.between(1, 2)).map(|_| random.between(2, 3)).collect();
     let mut text = format!("#{}", sizes[sizes.len() - 1]);
@@ -135,8 +135,8 @@ fn even_tree(random: &mut Random) -> (String, Vec<usize>) {
     (format!("({text})"), sizes)
 }
 
-/// The thresholds that are chosen keep every wait within the limit, and no thresholds that do are faster by more than what two runs of a busy lock
-/// differ by.
+/// The chosen thresholds must keep every wait within the limit. No other thresholds within the limit may be faster by more than two runs of a busy
+/// lock differ.
 fn compare_choice(tool: &Tool, random: &mut Random) -> Result<(), String> {
     let (text, sizes) = even_tree(random);
     let limit = random.between(2, 24) as u64;
@@ -165,7 +165,7 @@ fn compare_choice(tool: &Tool, random: &mut Random) -> Result<(), String> {
     (cost <= 1.03 * best).then_some(()).ok_or_else(|| format!("{words:?} chooses {thresholds:?} with {cost} for an entry, and the least is {best}"))
 }
 
-/// What is shown of a file makes the shortest file of its tree and schedule.
+/// What the command shows of a file must make the shortest file of its tree and schedule.
 fn compare_shown(tool: &Tool, accepted: &Accepted) -> Result<(), String> {
     let shown = tool.printed(&["show", "a.lock"])?;
     fs::write(tool.folder.join("shown"), &shown).expect("a folder to write to");

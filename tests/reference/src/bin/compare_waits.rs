@@ -1,6 +1,6 @@
-//! Compares the library's runs with waits, from no attempt under way and from some, with the step table's, and rows and numbers with waits that are looked for
-//! from each beginning of an attempt; then the same schedule cut at random places, each piece going on where the one before ended. Without the library it only
-//! counts what the cases meet.
+//! Compares the library's runs with waits, from no attempt under way and from some, with the step table's. Rows and numbers are also compared with waits that are
+//! searched from the beginning of each attempt. Then the same schedule is cut at random positions, and each piece continues where the one before it ended. Without
+//! the library it only counts what the cases cover.
 
 use reference::library;
 use reference::met::Met;
@@ -17,7 +17,7 @@ use std::process::exit;
 
 const CANARY: usize = 16;
 
-/// What the calls are given; trace and rows stand between canaries.
+/// The input of the calls. Trace and rows are between canaries.
 struct Case {
     tree: TreeWords,
     state: StateWords,
@@ -29,7 +29,7 @@ struct Case {
     cuts: Vec<usize>,
 }
 
-/// At times too long, at times with an entry that names no thread; often a few threads in turn, so that they wait for one another.
+/// Sometimes too long, sometimes with an entry that names no thread. Often a few threads in turn, so that they wait for one another.
 fn random_schedule(random: &mut Random, threads: u32) -> Vec<u16> {
     let length = match random.below(2_000) {
         0..=1 => LONGEST_SCHEDULE + random.below(2),
@@ -63,7 +63,7 @@ fn case_state(random: &mut Random, words: &TreeWords, length: usize) -> (StateWo
     (state, false)
 }
 
-/// Numbers of attempts under way, for some of the threads; at times one that cannot be.
+/// Numbers of attempts under way for some of the threads, sometimes with one that is not allowed.
 fn random_numbers(random: &mut Random, threads: usize) -> UnderWay {
     let mut numbers = [0; 256];
     let some = random.below(3);
@@ -83,7 +83,7 @@ fn random_numbers(random: &mut Random, threads: usize) -> UnderWay {
     numbers
 }
 
-/// Up to four places of a schedule, in their order.
+/// Up to four positions of a schedule, in order.
 fn random_cuts(random: &mut Random, length: usize) -> Vec<usize> {
     let mut cuts: Vec<usize> = (0..random.between(1, 4)).map(|_| random.below(length + 1)).collect();
     cuts.sort_unstable();
@@ -126,7 +126,7 @@ fn make_on(call: RunWaitsOn, case: &Case) -> (WaitsReply, Vec<u16>, Vec<u64>, Un
     (reply, trace, rows, numbers)
 }
 
-/// The pieces of the schedule one after another: the rows of all, added up, the numbers and the state after the last; none where a piece is refused.
+/// Runs the pieces of the schedule one after another. Returns the sums of their rows, and the numbers and the state after the last piece. None if a piece is refused.
 fn in_pieces(call: RunWaitsOn, case: &Case) -> Option<(Vec<[u128; 3]>, UnderWay, StateWords)> {
     let threads = case.tree.threads as usize;
     let (mut numbers, mut state, mut from) = (case.under_way, case.state, 0);
@@ -147,7 +147,7 @@ fn in_pieces(call: RunWaitsOn, case: &Case) -> Option<(Vec<[u128; 3]>, UnderWay,
     Some((sums, numbers, state))
 }
 
-/// What is wrong with the rows and the numbers of an accepted call that went on, by the steps themselves.
+/// What is wrong with the rows and the numbers of an accepted continued call, judged by the steps themselves.
 fn wrong_row_on(case: &Case, rows: &[u64], numbers: &UnderWay) -> Option<String> {
     let tree = case.tree.tree();
     let steps = seen(&tree, &case.state.state()?, &case.schedule);
@@ -164,7 +164,7 @@ fn wrong_row_on(case: &Case, rows: &[u64], numbers: &UnderWay) -> Option<String>
     (!unlike(&all, last).is_empty() || !zeros).then(|| "the last row is not that of all waits, or a number after the last thread is not 0".to_string())
 }
 
-/// What is wrong with the pieces of an accepted call, by what the whole call said.
+/// What is wrong with the pieces of an accepted call, compared with the whole call.
 fn wrong_pieces(call: RunWaitsOn, case: &Case, reply: &WaitsReply, rows: &[u64], numbers: &UnderWay) -> Option<String> {
     let (sums, left, state) = in_pieces(call, case)?;
     let cut = |total: u128| total.min(u64::MAX as u128);
@@ -172,7 +172,7 @@ fn wrong_pieces(call: RunWaitsOn, case: &Case, reply: &WaitsReply, rows: &[u64],
     (!same || left != *numbers || state != reply.state).then(|| format!("pieces cut at {:?} do not give what the whole run gives", case.cuts))
 }
 
-/// What is wrong with the rows of an accepted call, by the steps themselves.
+/// What is wrong with the rows of an accepted call, judged by the steps themselves.
 fn wrong_row(case: &Case, rows: &[u64]) -> Option<String> {
     let tree = case.tree.tree();
     let steps = seen(&tree, &case.state.state()?, &case.schedule);
@@ -191,7 +191,7 @@ fn wrong_row(case: &Case, rows: &[u64]) -> Option<String> {
     (!unlike(&all, &rows[ROW * tree.threads..][..ROW]).is_empty()).then(|| "the last row is not that of all waits".to_string())
 }
 
-/// The columns that are not those of some waits; a total that needs more than 64 bits is cut, and the mean is that of what stands there.
+/// The columns that do not match these waits. A total that needs more than 64 bits is capped, and the mean is computed from the capped total.
 fn unlike(waits: &[u64], row: &[u64]) -> Vec<usize> {
     let total = waits.iter().map(|&wait| wait as u128).sum::<u128>().min(u64::MAX as u128);
     let (attempts, numerator, denominator) = (waits.len() as u64, row[3], row[4]);
@@ -211,7 +211,7 @@ fn fail(number: usize, case: &Case, text: String) -> ! {
     exit(1)
 }
 
-/// What the calls that go on said, counted.
+/// Counts the outcomes of the continued calls.
 #[derive(Default)]
 struct WentOn {
     calls: usize,
@@ -221,7 +221,7 @@ struct WentOn {
     pieces: usize,
 }
 
-/// The call that goes on: the library's answer is the step table's, and what it says is what the steps say, whole and in pieces.
+/// The continued call: the library's answer must equal the step table's and agree with the steps, as a whole and in pieces.
 fn compare_on(number: usize, case: &Case, library: Option<RunWaitsOn>, met: &mut Met, went_on: &mut WentOn) {
     let (reply, trace, rows, numbers) = make_on(run_waits_on, case);
     if library.is_some_and(|call| make_on(call, case) != (reply, trace, rows.clone(), numbers)) {
@@ -243,7 +243,7 @@ fn compare_on(number: usize, case: &Case, library: Option<RunWaitsOn>, met: &mut
     went_on.pieces += in_pieces(run_waits_on, case).is_some() as usize;
 }
 
-/// What the rows of all threads said, counted.
+/// Counts what the rows of all threads contained.
 #[derive(Default)]
 struct Waited {
     attempts: u64,
@@ -251,7 +251,7 @@ struct Waited {
     reduced: usize,
 }
 
-/// The call from no attempt under way: the library's answer is the step table's, and the rows are those of the steps. Returns the answer.
+/// The call from no attempt under way: the library's answer must equal the step table's, and the rows must match the steps. Returns the answer.
 fn compare_plain(number: usize, case: &Case, waited: &mut Waited) -> WaitsReply {
     let (reply, trace, rows) = make(run_waits, case);
     if let Some(call) = library::run_waits() {

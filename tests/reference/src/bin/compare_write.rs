@@ -1,5 +1,5 @@
-//! Compares the library's writer of lock files with the reference's; without the library it only counts what the cases meet. Each file that is
-//! written is read back, and is never longer than one with random bits set for the same tree and schedule.
+//! Compares the library's lock file writer with the reference's. Without the library it only counts what the cases cover. Each file that is
+//! written is read back. It must not be longer than a file with random bits set for the same tree and schedule.
 
 use reference::draft::Draft;
 use reference::file_writer::{shortest, write_file, wrong_when_written_again, WriteFile};
@@ -16,14 +16,14 @@ use std::process::exit;
 
 const CANARY: usize = 64;
 
-/// What one call is given; the buffer stands between canaries.
+/// The input of one call. The buffer is between canaries.
 struct Case {
     draft: Draft,
     tree: TreeWords,
     buffer: Vec<u8>,
 }
 
-/// At times as many entries as are allowed or one more, at times as many as a file holds or up to two more or less.
+/// Sometimes the most entries allowed or one more, sometimes as many as a file holds or up to two more or fewer.
 fn lengthen(random: &mut Random, draft: &mut Draft) {
     let length = match random.below(1_000) {
         0 => LONGEST_SCHEDULE + random.below(2),

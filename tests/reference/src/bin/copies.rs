@@ -1,5 +1,5 @@
-//! Counts what a step in place copies: the bytes that the library hands to memcpy, which the linker wraps for this program (build.rs).
-//! The same on every machine with the same compiled library; copies of up to 128 bytes that the compiler expands are not seen.
+//! Counts what a step in place copies: the bytes that the library passes to memcpy. The linker wraps memcpy for this program (build.rs).
+//! The result is the same on every machine with the same compiled library. Copies of up to 128 bytes that the compiler expands are not counted.
 
 #[cfg(calls)]
 mod counted {
@@ -28,7 +28,7 @@ mod counted {
         __real_memcpy(to, from, length)
     }
 
-    /// A binary tree of at most 63 domains, threads spread over its leaves; as the bench has it, but for the last domain of a full tree.
+    /// A binary tree of at most 63 domains, with the threads spread over its leaves. Same as in the bench, except for the last domain of a full tree.
     fn tree(domains: usize, threads: usize) -> TreeWords {
         let mut tree = TreeWords { domains: domains as u32, threads: threads as u32, parents: [0; 64], thresholds: [4; 64], homes: [0; 256], ticket_root: 0 };
         for domain in 1..domains {

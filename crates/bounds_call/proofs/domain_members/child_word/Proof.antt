@@ -1,4 +1,4 @@
--- `bounds_call::domain_members::child_word` meets its contract: the word at the index of a child, 0 of any other domain, by the test of a child.
+-- `bounds_call::domain_members::child_word` meets its contract: the word at the index of a child, 0 for any other domain, by the test of a child.
 use mathlib.Core.Path.{sym, _∙_}
 use borrow.Author.Needs.{needs}
 use Rattle.bounds_call.proofs.domain_members.child_word.Statement.{statement}

@@ -1,4 +1,4 @@
--- `bounds_call::domain_members::largest_child` meets its contract: the largest word of the children passed.
+-- `bounds_call::domain_members::largest_child` meets its contract: the largest word of the children so far.
 use mathlib.Core.Path.{_≡_, refl}
 use mathlib.Core.Bool.{cond}
 use Prim.Native.Nat.{_≤_, _-_}

@@ -1,4 +1,4 @@
--- `bounds_call::wait_bounds::above_of` meets its contract: nothing at the root, and elsewhere W of the own record for each tenure.
+-- `bounds_call::wait_bounds::above_of` meets its contract: nothing at the root, elsewhere W of the own record for each tenure.
 use mathlib.Core.Path.{refl}
 use native.Mathlib.Omega.{arith}
 use Rattle.model.proofs.Trees.Reading.{few-domains}

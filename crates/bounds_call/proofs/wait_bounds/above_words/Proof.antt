@@ -1,4 +1,4 @@
--- `bounds_call::wait_bounds::above_words` meets its contract: what the domains passed add.
+-- `bounds_call::wait_bounds::above_words` meets its contract: what the domains so far add.
 use mathlib.Core.Path.{_≡_, refl}
 use native.Mathlib.Omega.{arith}
 use Prim.Native.Nat.{_≤_, _-_}

@@ -1,4 +1,4 @@
--- `bounds_call::wait_bounds::add_at` meets its contract: the sum of a domain is cut; 64 is no domain.
+-- `bounds_call::wait_bounds::add_at` meets its contract: the sum of a domain is capped; 64 is no domain.
 use borrow.Author.Tests.{lt-ltb, le-ltb}
 use Rattle.bounds_call.specs.Waits.{added}
 use borrow.Author.Needs.{needs}

@@ -1,4 +1,4 @@
--- `bounds_call::wait_bounds::count_members` meets its contract: the members among the records passed.
+-- `bounds_call::wait_bounds::count_members` meets its contract: the members among the records so far.
 use mathlib.Core.Path.{_≡_, sym}
 use native.Mathlib.Omega.{arith}
 use Prim.Native.Nat.{_≤_, _-_}

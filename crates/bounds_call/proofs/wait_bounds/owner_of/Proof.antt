@@ -1,4 +1,4 @@
--- `bounds_call::wait_bounds::owner_of` meets its contract: a thread is owned by its home, a domain by its parent.
+-- `bounds_call::wait_bounds::owner_of` meets its contract: the owner of a thread's record is its home, that of a domain's record its parent.
 use mathlib.Core.Path.{refl}
 use Rattle.bounds_call.proofs.WaitWords.{owner-thread, owner-no-thread, owner-root, owner-domain, owner-no-domain}
 use borrow.Author.Needs.{needs}

@@ -1,4 +1,4 @@
--- `bounds_call::wait_bounds::sum_at` meets its contract: beyond the room of 64 there is 0.
+-- `bounds_call::wait_bounds::sum_at` meets its contract: 0 beyond the 64 elements.
 use borrow.Author.Tests.{lt-ltb, le-ltb}
 use Rattle.bounds_call.specs.Waits.{sum-of}
 use borrow.Author.Needs.{needs}

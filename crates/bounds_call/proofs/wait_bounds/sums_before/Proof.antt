@@ -1,4 +1,4 @@
--- `bounds_call::wait_bounds::sums_before` meets its contract: for the records passed, the passes of those before each in its domain.
+-- `bounds_call::wait_bounds::sums_before` meets its contract: for the records so far, the passes of those before each in its domain.
 use mathlib.Core.Path.{_≡_}
 use native.Mathlib.Omega.{arith}
 use Prim.Native.Nat.{_≤_, _-_}

@@ -1,4 +1,4 @@
--- `bounds_call::wait_bounds::wait_words` meets its contract: W of the threads passed.
+-- `bounds_call::wait_bounds::wait_words` meets its contract: W of the threads so far.
 use mathlib.Core.Path.{_≡_}
 use native.Mathlib.Omega.{arith}
 use Prim.Native.Nat.{_≤_, _-_}

@@ -1,4 +1,4 @@
--- `chain_call::links::follow_links` meets its contract: the chain goes on from the last that is found.
+-- `chain_call::links::follow_links` meets its contract: the chain continues from the last thread found.
 use Prim.Native.Nat.{_-_}
 use native.Mathlib.Omega.{arith}
 use Rattle.model.specs.Trees.{tree-of}

@@ -1,4 +1,4 @@
--- `chain_call::links::link_at` meets its contract: each return by the row, and by whether a thread in Wait, Linger or Watch stays.
+-- `chain_call::links::link_at` meets its contract: each return follows from the row, and from whether a thread in Wait, Linger or Watch stays.
 use borrow.Author.Tests.{eq-eqb, ne-eqb}
 use mathlib.Core.Path.{sym, _∙_}
 use borrow.Author.Needs.{needs}

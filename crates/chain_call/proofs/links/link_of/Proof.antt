@@ -1,4 +1,4 @@
--- `chain_call::links::link_of` meets its contract: the own record is below 320, so what is read at its index are the definition's words.
+-- `chain_call::links::link_of` meets its contract: the own record is below 320, so the words read at its index are the definition's.
 use Rattle.model.specs.Trees.{tree-of}
 use native.Mathlib.Omega.{arith}
 use Rattle.model.proofs.Trees.Reading.{few-threads}

@@ -1,4 +1,4 @@
--- `chain_call::links::more_if_at` meets its contract: a hit counts the thread, and without one the count stays.
+-- `chain_call::links::more_if_at` meets its contract: a hit counts the thread; otherwise the count is unchanged.
 use borrow.Author.Needs.{needs}
 use Rattle.chain_call.proofs.links.more_if_at.Statement.{statement}
 use Rattle.chain_call.proofs.links.more_if_at.Tie as tie

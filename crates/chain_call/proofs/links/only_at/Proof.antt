@@ -1,4 +1,4 @@
--- `chain_call::links::only_at` meets its contract: 300 stands for several and gives 0, any other count itself, by its test.
+-- `chain_call::links::only_at` meets its contract: 300 means several and gives 0, any other count gives itself, by its test.
 use borrow.Author.Tests.{eq-eqb, ne-eqb}
 use Rattle.chain_call.proofs.links.only_at.Statement.{statement}
 use Rattle.chain_call.proofs.links.only_at.Tie as tie

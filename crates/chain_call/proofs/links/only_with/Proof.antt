@@ -1,4 +1,4 @@
--- `chain_call::links::only_with` meets its contract: the threads passed are counted.
+-- `chain_call::links::only_with` meets its contract: the threads so far are counted.
 use mathlib.Core.Path.{_≡_}
 use Prim.Native.Nat.{_≤_, _-_}
 use native.Mathlib.Omega.{arith}

@@ -1,4 +1,4 @@
--- `chain_call::links::waits_at` meets its contract: the root's word at the root and the other below it, by its test.
+-- `chain_call::links::waits_at` meets its contract: one word for the root, another below it, by its test.
 use borrow.Author.Tests.{eq-eqb, ne-eqb}
 use Rattle.chain_call.proofs.links.waits_at.Statement.{statement}
 use Rattle.chain_call.proofs.links.waits_at.Tie as tie

@@ -1,4 +1,4 @@
--- `chain_call::links::watch_link_at` meets its contract: at the grant 400, else the one thread with the ticket before, which is one less modulo 65,536.
+-- `chain_call::links::watch_link_at` meets its contract: 400 if the ticket is the grant, otherwise the only thread with the ticket before, which is one less modulo 65,536.
 use borrow.Author.Tests.{eq-eqb, ne-eqb}
 use borrow.Author.Needs.{needs}
 use Rattle.chain_call.proofs.links.watch_link_at.Statement.{statement}

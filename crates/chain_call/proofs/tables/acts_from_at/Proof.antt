@@ -1,4 +1,4 @@
--- `chain_call::tables::acts_from_at` meets its contract: each return by the tests before it: Idle, everywhere, not yet at its domain, or there.
+-- `chain_call::tables::acts_from_at` meets its contract: each return follows from the tests before it: Idle, everywhere, not yet at its domain, or there.
 use mathlib.Core.Path.{sym, _∙_}
 use borrow.Author.Tests.{eq-eqb, ne-eqb}
 use borrow.Author.Needs.{needs}

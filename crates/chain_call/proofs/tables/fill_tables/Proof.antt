@@ -1,4 +1,4 @@
--- `chain_call::tables::fill_tables` meets its contract: the threads passed are in the tables.
+-- `chain_call::tables::fill_tables` meets its contract: the threads so far are in the tables.
 use mathlib.Core.Path.{_≡_}
 use Prim.Native.Nat.{_≤_, _-_}
 use native.Mathlib.Omega.{arith}

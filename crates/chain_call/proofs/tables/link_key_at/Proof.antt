@@ -1,4 +1,4 @@
--- `chain_call::tables::link_key_at` meets its contract: the row decides: in Link one more than the record, which fits 32 bits, else 0.
+-- `chain_call::tables::link_key_at` meets its contract: the row decides: in Link one more than the record, which fits in 32 bits, otherwise 0.
 use borrow.Author.Tests.{eq-eqb, ne-eqb}
 use borrow.Author.Needs.{needs}
 use Rattle.chain_call.proofs.tables.link_key_at.Statement.{statement}

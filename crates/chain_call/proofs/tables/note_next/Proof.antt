@@ -1,4 +1,4 @@
--- `chain_call::tables::note_next` meets its contract: 0 names no record and nothing is stored; else one store, at the index that is one less.
+-- `chain_call::tables::note_next` meets its contract: 0 names no record and nothing is stored; otherwise one store, at the index one less.
 use borrow.Author.Tests.{eq-eqb, ne-eqb}
 use borrow.Author.Needs.{needs}
 use Rattle.chain_call.proofs.tables.note_next.Statement.{statement}

@@ -1,4 +1,4 @@
--- `chain_call::tables::note_path` meets its contract: the domains passed are noted.
+-- `chain_call::tables::note_path` meets its contract: the domains so far are entered.
 use native.Mathlib.Omega.{arith}
 use Rattle.chain_call.specs.Tables.{tree-at}
 use Rattle.model.proofs.Trees.Reading.{few-threads, few-domains}

@@ -1,4 +1,4 @@
--- `chain_call::tables::ticket_key_at` meets its contract: 0 but at the root with a status below 65,536, where one more fits 32 bits.
+-- `chain_call::tables::ticket_key_at` meets its contract: 0 except at the root with a status below 65,536, where one more fits in 32 bits.
 use borrow.Author.Tests.{eq-eqb, ne-eqb, lt-ltb, le-ltb}
 use borrow.Author.Needs.{needs}
 use Rattle.chain_call.proofs.tables.ticket_key_at.Statement.{statement}

@@ -1,4 +1,4 @@
--- `file_calls::printing::digit_count` meets its contract: a division by ten takes a digit off.
+-- `file_calls::printing::digit_count` meets its contract: a division by ten removes one digit.
 use borrow.Author.Needs.{needs}
 use mathlib.Core.Path.{_≡_}
 use Prim.Native.Nat.{_+_, _≤_}

@@ -1,4 +1,4 @@
--- `file_calls::printing::first_line_length`. The word, and what the counts take.
+-- `file_calls::printing::first_line_length` meets its contract: the word, and the length of the counts.
 use mathlib.Core.Path.{ap}
 use native.Mathlib.Omega.{arith}
 use lib.ListN.{length}

@@ -1,4 +1,4 @@
--- `file_calls::printing::put_first_line`. The word, and the counts after it.
+-- `file_calls::printing::put_first_line` meets its contract: the word, and the counts after it.
 use mathlib.Core.Path.{sym, ap, _∙_}
 use mathlib.Core.List.{[], _∷_}
 use native.Mathlib.Omega.{arith}

@@ -1,4 +1,4 @@
--- `file_calls::printing::put_number` meets its contract: to put the numeral and then the byte after it is to put both as one list.
+-- `file_calls::printing::put_number` meets its contract: writing the numeral and then the byte after it writes both as one list.
 use mathlib.Core.List.{[], _∷_}
 use mathlib.Core.Path.{sym}
 use native.Mathlib.Omega.{arith}

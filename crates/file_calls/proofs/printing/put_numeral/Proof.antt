@@ -1,4 +1,4 @@
--- `file_calls::printing::put_numeral` meets its contract: what is left to write gives what the whole gives.
+-- `file_calls::printing::put_numeral` meets its contract: at each turn of the loop, what remains to write gives the result of the whole.
 use mathlib.Core.Path.{_≡_, refl, _∙_}
 use Prim.Native.Nat.{_+_, _-_, _/_, _≤_}
 use native.Mathlib.Omega.{arith}

@@ -1,4 +1,4 @@
--- `file_calls::printing::put_ok` meets its contract: two stores, for which there is room.
+-- `file_calls::printing::put_ok` meets its contract: two stores within the buffer.
 use borrow.Author.Needs.{needs}
 use Rattle.file_calls.proofs.printing.put_ok.Statement.{statement}
 use Rattle.file_calls.proofs.printing.put_ok.Tie as tie

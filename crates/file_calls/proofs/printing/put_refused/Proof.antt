@@ -1,4 +1,4 @@
--- `file_calls::printing::put_refused` meets its contract: seven stores one after another, none of which changes the length.
+-- `file_calls::printing::put_refused` meets its contract: seven stores in order, none of which changes the length.
 use native.Mathlib.Omega.{arith}
 use lib.ListN.{length-set}
 use borrow.Author.Needs.{needs}

@@ -1,4 +1,4 @@
--- `file_calls::printing::put_spaced`. What is left to write gives what the whole gives.
+-- `file_calls::printing::put_spaced` meets its contract: at each turn of the loop, what remains to write gives the result of the whole.
 use mathlib.Core.Path.{ap, _≡_, refl, sym, _∙_}
 use Prim.Native.Nat.{_+_, _-_, _≤_}
 use native.Mathlib.Omega.{arith}

@@ -1,4 +1,4 @@
--- `file_calls::printing::spaced_length`. What is measured and what is left make the whole.
+-- `file_calls::printing::spaced_length` meets its contract: the length so far and the rest add up to the whole.
 use mathlib.Core.Path.{ap, _≡_}
 use Prim.Native.Nat.{_+_, _*_, _-_, _≤_}
 use native.Mathlib.Omega.{arith}

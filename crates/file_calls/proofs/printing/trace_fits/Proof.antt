@@ -1,4 +1,4 @@
--- `file_calls::printing::trace_fits` meets its contract: what is left of the room, and the lines still ahead.
+-- `file_calls::printing::trace_fits` meets its contract: the space left, and the lines left.
 use mathlib.Core.Path.{ap, _≡_, sym}
 use Prim.Native.Nat.{_+_, _-_, _≤_, _<_}
 use native.Mathlib.Omega.{arith}

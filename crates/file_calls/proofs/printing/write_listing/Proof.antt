@@ -1,4 +1,4 @@
--- `file_calls::printing::write_listing`. Measured first; then the first line, and the trace after it.
+-- `file_calls::printing::write_listing` meets its contract: the listing is measured first; then the first line is written, and the trace after it.
 use mathlib.Core.Path.{sym, _∙_}
 use Prim.Native.Nat.{_-_, _≤_, _<_}
 use native.Mathlib.Omega.{arith}

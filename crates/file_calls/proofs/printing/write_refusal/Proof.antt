@@ -1,4 +1,4 @@
--- `file_calls::printing::write_refusal`. Measured first; then the word, and number and place after it.
+-- `file_calls::printing::write_refusal` meets its contract: the line is measured first; then the word is written, and number and place after it.
 use mathlib.Core.Path.{sym, _∙_}
 use Prim.Native.Nat.{_≤_, _<_}
 use mathlib.Core.List.{[], _∷_}

@@ -1,4 +1,4 @@
--- `file_calls::writing::write_file` meets its contract: the tree's tests, the schedule's, the file's length, the buffer's; then the tree and the schedule after it.
+-- `file_calls::writing::write_file` meets its contract: the tests of the tree, the schedule, the file's length and the buffer's length; then the tree is written, and the schedule after it.
 use mathlib.Core.Path.{ap, _∙_}
 use Prim.Native.Nat.{_≤_, _<_}
 use native.Mathlib.Omega.{arith}

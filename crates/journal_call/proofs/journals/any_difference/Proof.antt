@@ -1,4 +1,4 @@
--- `journal_call::journals::any_difference` meets its contract: without a mark, all entries passed name the kinds that were told.
+-- `journal_call::journals::any_difference` meets its contract: without a mark, all entries so far name the reported kinds.
 use mathlib.Core.Path.{_≡_, refl, sym, _∙_}
 use mathlib.Core.Bool.{Bool, true, false, cond}
 use mathlib.Core.List.{List}
@@ -12,7 +12,7 @@ use borrow.Author.Needs.{needs}
 use Rattle.journal_call.proofs.journals.any_difference.Statement.{statement}
 use Rattle.journal_call.proofs.journals.any_difference.Tie as tie
 
--- one entry more
+-- one more entry
 one-reported :
     (ks cs : List ℕ) (n mark next : ℕ) → (mark ≡ 0 → All-same-kinds ks cs n) → next ≡ cond (eqb (getD ks n 0) (getD cs n 0 % 8)) mark 1 → next ≡ 0 →
     All-same-kinds ks cs (n + 1)

@@ -1,4 +1,4 @@
--- `journal_call::journals::check_entries` meets its contract: the walk from a fresh lock gives the answer.
+-- `journal_call::journals::check_entries` meets its contract: going through the journal from a fresh lock gives the answer.
 use mathlib.Core.Path.{_∙_}
 use Rattle.journal_call.proofs.Journaling.{start}
 use borrow.Author.Needs.{needs}

@@ -1,4 +1,4 @@
--- `journal_call::journals::check_piece` meets its contract: what is still ahead of a piece decides the answer, or what is ahead of the next one.
+-- `journal_call::journals::check_piece` meets its contract: the rest of the journal from this piece on, or from the next one on, decides the answer.
 use mathlib.Core.Path.{_≡_, sym, subst}
 use mathlib.Core.Bool.{Bool}
 use Prim.Native.Nat.{_≤_, _<_}
@@ -10,7 +10,7 @@ use borrow.Author.Needs.{needs}
 use Rattle.journal_call.proofs.journals.check_piece.Statement.{statement}
 use Rattle.journal_call.proofs.journals.check_piece.Tie as tie
 
--- where the function starts, where the piece has been read, and where its threads are about to be stepped
+-- earlier points of the code: the start, where the piece has been read, and before its steps
 abbrev start-of : tie.After-read-piece → tie.Start
 start-of c = search c
 
@@ -20,7 +20,7 @@ read-of c = search c
 abbrev stepping : tie.After-first-other-kind → tie.After-run-piece-arg13
 stepping c = search c
 
--- there is room for what is told of each step, and a piece that stops for no other reason is full
+-- the buffer for the reported steps is long enough, and a piece is full if it stops for no other reason
 room : (c : tie.After-run-piece-arg13) → read-of c .read-piece .result .count ≤ length (start-of (read-of c) .args .codes .now)
 room c = search needs
 

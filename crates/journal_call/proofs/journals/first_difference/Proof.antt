@@ -1,4 +1,4 @@
--- `journal_call::journals::first_difference` meets its contract: all entries passed name the kinds that were told.
+-- `journal_call::journals::first_difference` meets its contract: all entries so far name the reported kinds.
 use mathlib.Core.Path.{_≡_}
 use mathlib.Core.Bool.{false}
 use Prim.Native.Nat.{ℕ, _≤_, _<_, _-_}

@@ -1,4 +1,4 @@
--- `journal_call::journals::first_other_kind` meets its contract: no entry differs, or the first that does is looked for.
+-- `journal_call::journals::first_other_kind` meets its contract: no entry differs, or the first that does is searched.
 use native.Mathlib.Omega.{arith}
 use borrow.Author.Needs.{needs}
 use Rattle.journal_call.proofs.journals.first_other_kind.Statement.{statement}

@@ -1,4 +1,4 @@
--- `journal_call::journals::run_piece` meets its contract: the piece's threads are the first of those lent.
+-- `journal_call::journals::run_piece` meets its contract: the threads of the piece are the first of the borrowed ones.
 use mathlib.Core.Path.{_≡_, ap, _∙_}
 use Prim.Native.Nat.{_-_}
 use native.Mathlib.Omega.{arith}

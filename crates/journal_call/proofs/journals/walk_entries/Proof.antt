@@ -1,6 +1,6 @@
--- `journal_call::journals::walk_entries` meets its contract: a walk of its MIR, by hand. A reader stands in a local from the first byte to the last. Each turn of the loop takes it apart, calls `check_piece`, which is known by its contract alone, and moves the reader behind the piece.
--- The loop's invariant is the whole context at its head (`I`). Its variant is where the reader stands and what is behind the references (`Spot`), ordered by the bytes that are ahead (`less`).
--- Of the toolchain's letters, 𝓤 is the algebra of resources, H the heap, A the atoms of ghost state, W what is given of both, 𝓜 the model of the heap, 𝓖 the rules of ghost state, 𝓡 what it is to run a routine, 𝓣 the tables of calls (C) and of loops (Λ); κ is a lifetime, q a share of its token. T is the reader's type, S a turn's, Tr the tree's.
+-- `journal_call::journals::walk_entries` meets its contract: a walk through its MIR, by hand. A reader is in a local variable for the whole journal. Each turn of the loop takes its fields, calls `check_piece`, of which only the contract is used, and moves the reader past the piece.
+-- The loop's invariant is the whole context at its head (`I`). Its variant is the reader's position and what the references point to (`Spot`), ordered by the number of bytes ahead (`less`).
+-- Of the toolchain's letters, 𝓤 is the algebra of resources, H the heap, A the atoms of ghost state, W what is given of both, 𝓜 the model of the heap, 𝓖 the rules of ghost state, 𝓡 what running a routine means, 𝓣 the tables of calls (C) and of loops (Λ); κ is a lifetime, q a share of its token. T is the reader's type, S a turn's, Tr the tree's.
 use mathlib.Core.Path.{_≡_, refl, ap, subst}
 use mathlib.Core.Bool.{Bool, true, false, not}
 use Prim.Native.Nat.{ℕ, _<_, _^_, _-_}
@@ -78,12 +78,12 @@ fails false _ = refl
 abbrev stayed : Stays (this.ended .signature .params) (this.ended .kept)
 stayed = (stay-none (λ _. Tr.the-row) yes, (stay-none-slice (0 ∷ []) tt (plain (λ _. u8)) yes, (stay-ref (1 ∷ []) tt (ArrayOf (plain (λ _. u16)) (λ _. tt) 64), (stay-ref (2 ∷ []) tt (ArrayOf (plain (λ _. u16)) (λ _. tt) 320), (stay-ref (3 ∷ []) tt (ArrayOf (plain (λ _. u64)) (λ _. tt) 320), (stay-ref (4 ∷ []) tt (ArrayOf (plain (λ _. u8)) (λ _. tt) 256), (stay-ref (5 ∷ []) tt (ArrayOf (plain (λ _. u8)) (λ _. tt) 256), (stay-ref (6 ∷ []) tt (ArrayOf (plain (λ _. u16)) (λ _. tt) 256), (stay-ref (7 ∷ []) tt (ArrayOf (plain (λ _. u64)) (λ _. tt) 256), (stay-ref (8 ∷ []) tt (plain (λ _. u16)), (stay-ref (9 ∷ []) tt (plain (λ _. u16)), (stay-ref (10 ∷ []) tt (ArrayOf (plain (λ _. u16)) (λ _. tt) 1024), (stay-ref (11 ∷ []) tt (ArrayOf (plain (λ _. u8)) (λ _. tt) 1024), (stay-ref (12 ∷ []) tt (ArrayOf (plain (λ _. u16)) (λ _. tt) 1024), (stay-ref (13 ∷ []) tt (ArrayOf (plain (λ _. u16)) (λ _. tt) 1024), tt)))))))))))))))
 
--- the contract that the proof cites
+-- the contract of `check_piece`
 abbrev PieceAt : {M : Type 1} (𝓤 : URA M) (H : Heap 𝓤) (A : Atoms 𝓤) (mem : Memory → SProp 𝓤) (run : Routine → Fun 𝓤) → Contract 𝓤
 PieceAt 𝓤 H A mem run = tripleOf 𝓤 H A piece.signature (piece.spec 𝓤 H A mem run)
 
 module _ {M : Type 1} (𝓤 : URA M) (H : Heap 𝓤) (A : Atoms 𝓤) (W : Given 𝓤 H A) (mem : Memory → SProp 𝓤) (run : Routine → Fun 𝓤) (κ κ₁ κ₂ κ₃ κ₄ κ₅ κ₆ κ₇ κ₈ κ₉ κ₁₀ κ₁₁ κ₁₂ κ₁₃ : Lft) (q q₁ q₂ q₃ q₄ q₅ q₆ q₇ q₈ q₉ q₁₀ q₁₁ q₁₂ q₁₃ : Share) (tree : TreeWords) (s : RefT (List ℕ)) (tails : RefT (List ℕ)) (nexts : RefT (List ℕ)) (statuses : RefT (List ℕ)) (rows : RefT (List ℕ)) (domains : RefT (List ℕ)) (peers : RefT (List ℕ)) (words : RefT (List ℕ)) (ticket : RefT ℕ) (granted : RefT ℕ) (threads : RefT (List ℕ)) (kinds : RefT (List ℕ)) (trace : RefT (List ℕ)) (codes : RefT (List ℕ)) where
-  -- the references that are lent again to each call
+  -- the references that are lent again in each call
   abbrev held : List Held
   held =
       held-at (Array u16 tt 64) (named 1) κ₁ q₁ tails ∷
@@ -129,7 +129,7 @@ module _ {M : Type 1} (𝓤 : URA M) (H : Heap 𝓤) (A : Atoms 𝓤) (W : Given
   abbrev Trees : Fml
   Trees = Tr.the-row .own tree (tv ∷ [])
 
-  -- where the loop stands: the reader's position, the thread before it, and what stands behind the references
+  -- where the loop is: the reader's position, the thread before it, and what the references point to
   record Spot : Type 0 where
     position : ℕ
     before : ℕ
@@ -138,7 +138,7 @@ module _ {M : Type 1} (𝓤 : URA M) (H : Heap 𝓤) (A : Atoms 𝓤) (W : Given
     before-fits : before < 2 ^ 16
     going : So-far tree (s .now) (lent-state (vs .0) (vs .1 .0) (vs .1 .1 .0) (vs .1 .1 .1 .0) (vs .1 .1 .1 .1 .0) (vs .1 .1 .1 .1 .1 .0) (vs .1 .1 .1 .1 .1 .1 .0) (vs .1 .1 .1 .1 .1 .1 .1 .0) (vs .1 .1 .1 .1 .1 .1 .1 .1 .0)) position before
 
-  -- it falls as the position grows
+  -- the bytes ahead: fewer as the position grows
   abbrev left : Spot → ℕ
   left x = length (s .now) - x .position
 
@@ -148,7 +148,7 @@ module _ {M : Type 1} (𝓤 : URA M) (H : Heap 𝓤) (A : Atoms 𝓤) (W : Given
   abbrev reader : ℕ → ℕ → Val
   reader p b = T′.lowered (record { journal = s; position = p; before = b })
 
-  -- the callee's lifetimes, with the whole token of each but the journal's, and what it is passed
+  -- the callee's lifetimes, with the full token of each except the journal's, and its arguments
   abbrev lfts : News held → Lfts 14
   lfts ns = (κ, (ns .0 .0 ∷ [], (ns .1 .0 .0 ∷ [], (ns .1 .1 .0 .0 ∷ [], (ns .1 .1 .1 .0 .0 ∷ [], (ns .1 .1 .1 .1 .0 .0 ∷ [], (ns .1 .1 .1 .1 .1 .0 .0 ∷ [], (ns .1 .1 .1 .1 .1 .1 .0 .0 ∷ [], (ns .1 .1 .1 .1 .1 .1 .1 .0 .0 ∷ [], (ns .1 .1 .1 .1 .1 .1 .1 .1 .0 .0 ∷ [], (ns .1 .1 .1 .1 .1 .1 .1 .1 .1 .0 .0 ∷ [], (ns .1 .1 .1 .1 .1 .1 .1 .1 .1 .1 .0 .0 ∷ [], (ns .1 .1 .1 .1 .1 .1 .1 .1 .1 .1 .1 .0 .0 ∷ [], (ns .1 .1 .1 .1 .1 .1 .1 .1 .1 .1 .1 .1 .0 .0 ∷ [], tt))))))))))))))
 
@@ -167,7 +167,7 @@ module _ {M : Type 1} (𝓤 : URA M) (H : Heap 𝓤) (A : Atoms 𝓤) (W : Given
   asked : (x : Spot) (ns : News held) → ent 𝓤 (onEntry 𝓤 H A piece.signature (lfts ns) shares (passed x ns) (values x ns)) (PieceAt 𝓤 H A mem run .pre (to x ns))
   asked x ns = qed W ((‵ (flft κ q) ⊛ ‵ (alive-all held ns)) ∷ ‵ (owns (typesAt (piece.signature .params) (lfts ns)) (passed x ns) (values x ns)) ∷ []) ∵ says ! (x .going) $ join ! $ done !
 
-  -- what it asks is made of the references lent again, the journal and the tree, which are kept too
+  -- its requirement follows from the references lent again, the journal and the tree; the last two are kept too
   goes : (x : Spot) (ns : News held) → ent 𝓤 (⋆ 𝓤 H A (‵ (lent-all held ns (x .vs)) ∷ ‵ (alive-all held ns) ∷ ‵ (flft κ q) ∷ ‵ Journal ∷ ‵ Trees ∷ []))
       (sep 𝓤 (PieceAt 𝓤 H A mem run .pre (to x ns)) (sep 𝓤 (sem 𝓤 H A Journal) (sem 𝓤 H A Trees)))
   goes x ns =
@@ -176,7 +176,7 @@ module _ {M : Type 1} (𝓤 : URA M) (H : Heap 𝓤) (A : Atoms 𝓤) (W : Given
       move ! (4 ∷ []) $ owned ! u16 (Is u16) (uint-makes 𝓤 H A W w16) (x .before) _ (refl, x .before-fits) $ fjoin ! $ owned ! usize (Is usize) (uint-makes 𝓤 H A W w64) (x .position) _ (refl, x .position-fits) $ fjoin ! $
       move ! (3 ∷ 0 ∷ []) $ fjoin ! $ move ! (1 ∷ 0 ∷ []) $ fjoin ! $ move ! (4 ∷ 3 ∷ []) $ join ! $ use2 W (raw (PieceAt 𝓤 H A mem run .pre (to x ns))) (asked x ns) $ move ! (0 ∷ 2 ∷ 1 ∷ []) $ done !
 
-  -- the machine value of a turn, and what its numbers fit in
+  -- the machine value of a turn, and the sizes of its numbers
   told : (r : Turn) (w : Val) → Is S.the-row r (w ∷ []) → w ∷ [] ≡ S′.lowered r ∷ []
   told r w is = LL.tells S.the-type S′.the-laws r (w ∷ []) is
 
@@ -250,7 +250,7 @@ module _ {M : Type 1} (𝓤 : URA M) (H : Heap 𝓤) (A : Atoms 𝓤) (W : Given
     unfolding afterTurn
     turn-at x =
         qed W (I x) ∵ exec ! (𝓣 .C) (𝓣 .Λ) En written.turn-1 (anyQ (afterTurn 𝓤 H (Below 𝓤 H A less I x) Left)) $
-        -- the reader is taken apart
+        -- the reader's fields are read
         move ! (3 ∷ []) $ peeks ! (ShrSlice (named 0) κ u8) (Is (ShrSlice (named 0) κ u8)) (shows 𝓤 H A (ShrSlice (named 0) κ u8)) s (jv ∷ []) (λ jis.
         assigns ! (of-opd ! (load ! (from ! (fld ! refl (stop !))) (look-in ! 41 (sub ! 0 refl (whole !))))) (from ! (stop !)) (init ! 37 refl (tt, shr-slice-lawful 𝓤 H A W (named 0) κ u8 .typed s (jv ∷ []) jis .0 .1)) $
         assigns ! (of-opd ! (load ! (from ! (fld ! refl (stop !))) (look-in ! 41 (sub ! 1 refl (whole !))))) (from ! (stop !)) (init ! 35 refl (tt, record { fits = x .position-fits })) $
@@ -274,19 +274,19 @@ module _ {M : Type 1} (𝓤 : URA M) (H : Heap 𝓤) (A : Atoms 𝓤) (W : Given
         calls-at ! (fmOf 𝓤 H (W .laws) 𝓣) (PieceAt 𝓤 H A mem run) known (to x ns) (and-then ! (load ! (from ! (stop !)) (look ! 69 refl)) (and-then ! (load ! (from ! (stop !)) (look ! 35 refl)) (and-then ! (load ! (from ! (stop !)) (look ! 33 refl)) (and-then ! (load ! (from ! (stop !)) (look ! 31 refl)) (and-then ! (load ! (from ! (stop !)) (look ! 29 refl)) (and-then ! (load ! (from ! (stop !)) (look ! 27 refl)) (and-then ! (load ! (from ! (stop !)) (look ! 25 refl)) (and-then ! (load ! (from ! (stop !)) (look ! 23 refl)) (and-then ! (load ! (from ! (stop !)) (look ! 21 refl)) (and-then ! (load ! (from ! (stop !)) (look ! 19 refl)) (and-then ! (load ! (from ! (stop !)) (look ! 17 refl)) (and-then ! (load ! (from ! (stop !)) (look ! 15 refl)) (and-then ! (load ! (from ! (stop !)) (look ! 13 refl)) (and-then ! (load ! (from ! (stop !)) (look ! 11 refl)) (and-then ! (load ! (from ! (stop !)) (look ! 9 refl)) (and-then ! (load ! (from ! (stop !)) (look ! 7 refl)) (and-then ! (load ! (from ! (stop !)) (look ! 5 refl)) (no-more !)))))))))))))))))) (λ w.
         use1 W (later (some (λ (r : Turn). ((‵ (flft κ q) ⊛ ‵ (alive-all held ns)) ⊛ ‵ (S.the-row .own r (w ∷ []))) ⊛ raw (ensured 𝓤 H A piece.ended (piece.clauses 𝓤 H A mem run) (lfts ns) (passed x ns) tt r)))) (id⊢ 𝓤 _) $ await ! tt $ pick ! (λ r. split ! $
         move ! (1 ∷ []) $ use1 W (some (λ (ws : Lasts piece.ended (lfts ns) (passed x ns)). ‵ (lasts piece.ended (lfts ns) (passed x ns) ws) ⊛ raw (fact 𝓤 (Turned tree (s .now) (x .position) r (lent-state (ws .1 .1 .1 .1 .0) (ws .1 .1 .1 .1 .1 .0) (ws .1 .1 .1 .1 .1 .1 .0) (ws .1 .1 .1 .1 .1 .1 .1 .0) (ws .1 .1 .1 .1 .1 .1 .1 .1 .0) (ws .1 .1 .1 .1 .1 .1 .1 .1 .1 .0) (ws .1 .1 .1 .1 .1 .1 .1 .1 .1 .1 .0) (ws .1 .1 .1 .1 .1 .1 .1 .1 .1 .1 .1 .0) (ws .1 .1 .1 .1 .1 .1 .1 .1 .1 .1 .1 .1 .0)))))) (id⊢ 𝓤 _) $ pick ! (λ ws. split ! $ move ! (1 ∷ []) $ heard ! (Turned tree (s .now) (x .position) r (lent-state (ws .1 .1 .1 .1 .0) (ws .1 .1 .1 .1 .1 .0) (ws .1 .1 .1 .1 .1 .1 .0) (ws .1 .1 .1 .1 .1 .1 .1 .0) (ws .1 .1 .1 .1 .1 .1 .1 .1 .0) (ws .1 .1 .1 .1 .1 .1 .1 .1 .1 .0) (ws .1 .1 .1 .1 .1 .1 .1 .1 .1 .1 .0) (ws .1 .1 .1 .1 .1 .1 .1 .1 .1 .1 .1 .0) (ws .1 .1 .1 .1 .1 .1 .1 .1 .1 .1 .1 .1 .0))) (λ e.
-        -- the last values of the references; the others have none
+        -- the last values of the references; the other arguments have none
         fsplit ! $ drop ! $ fsplit ! $ drop ! $ fsplit ! $ drop ! $ fsplit ! $ drop ! $
         move ! (1 ∷ []) $ split ! $ move ! (1 ∷ []) $ peeks ! S.the-row (Is S.the-row) (shows 𝓤 H A S.the-row) r (w ∷ []) (λ is. land ! (from ! (stop !)) (init ! 39 refl (LL.lawful S.the-type S′.the-laws 𝓤 H A W .typed r _ is .0)) $
         rewrite ! 39 (λ (u : Val). ‵ (fat fullShare S′.mir l₁₇ 0 u)) (ap only (told r w is)) refl $
-        -- they come back
+        -- the references come back
         move ! (1 ∷ []) $ split ! $
         move ! (1 ∷ 5 ∷ 3 ∷ []) $ use3 W (later (‵ (owned-all held (ws .1 .1 .1 .1)) ⊛ ‵ (tokens held))) (back-all 𝓤 H A W held ns (x .vs) (ws .1 .1 .1 .1)) $ await ! tt $ split ! $
         move ! (4 ∷ []) $ split ! $
-        -- the reader moves
+        -- the reader moves past the piece
         assigns ! (of-opd ! (load ! (from ! (fld ! refl (stop !))) (look-in ! 40 (sub ! 1 refl (whole !))))) (from ! (fld ! refl (stop !))) (store-in ! 42 (sub ! 1 refl (whole !)) (tt, record { fits = position-of r w is })) $
         assigns ! (of-opd ! (load ! (from ! (fld ! refl (stop !))) (look-in ! 40 (sub ! 2 refl (whole !))))) (from ! (fld ! refl (stop !))) (store-in ! 42 (sub ! 2 refl (whole !)) (tt, record { fits = before-of r w is })) $
         assigns ! (of-opd ! (load ! (from ! (fld ! refl (stop !))) (look-in ! 40 (sub ! 0 refl (whole !))))) (from ! (stop !)) (init ! 6 refl (tt, tt)) $
-        -- stopped, all locals are freed, and what is left is what the contract asks; else the loop goes on from where the reader stands now
+        -- if stopped, all locals are freed, and the rest is what the contract ensures; otherwise the loop continues from the reader's new position
         branches ! (load ! (from ! (stop !)) (look ! 6 refl))
         (λ yes. assigns ! (of-opd ! (load ! (from ! (stop !)) (look ! 40 refl))) (from ! (stop !)) (init ! 74 refl (LL.lawful S.the-type S′.the-laws 𝓤 H A W .typed r _ (lowered-is r w is) .0)) $ returns-within ! Post refl (look ! 74 refl) $
         forget ! 74 refl $ forget ! 72 refl $ forget ! 70 refl $ forget ! 68 refl $ forget ! 66 refl $ forget ! 64 refl $ forget ! 62 refl $ forget ! 60 refl $ forget ! 58 refl $ forget ! 56 refl $ forget ! 54 refl $ forget ! 52 refl $ forget ! 50 refl $ forget ! 48 refl $ forget ! 46 refl $ forget ! 44 refl $ forget ! 42 refl $ forget ! 40 refl $ forget ! 38 refl $ forget ! 36 refl $ forget ! 34 refl $ forget ! 32 refl $ forget ! 30 refl $ forget ! 28 refl $ forget ! 26 refl $ forget ! 24 refl $ forget ! 22 refl $ forget ! 20 refl $ forget ! 18 refl $ forget ! 16 refl $ forget ! 14 refl $ forget ! 12 refl $ forget ! 10 refl $ forget ! 8 refl $ forget ! 6 refl $

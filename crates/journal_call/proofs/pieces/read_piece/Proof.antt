@@ -1,4 +1,4 @@
--- `journal_call::pieces::read_piece` meets its contract: four entries at once or up to thirty-two one by one, until the room is full or reading stops.
+-- `journal_call::pieces::read_piece` meets its contract: four entries at once or up to thirty-two one by one, until the arrays are full or reading stops.
 use mathlib.Core.Path.{_∙_}
 use Prim.Native.Nat.{_-_}
 use native.Mathlib.Omega.{arith}
@@ -104,7 +104,7 @@ returns-2 c =
     (again _ _ _ _ _ _ _ _ _ _ _ _ (after-read-alike .read-alike .ensures) (else1 .if1 .left) _ _ _ _ _ (after-read-next .read-next .ensures .0)))
     (some .ensures .1 .stops) (λ z l. absurd (omega (arith, l, c .if3 .taken)))
 
--- where a turn of the loop starts
+-- the start of a turn of the loop
 abbrev turn-of : tie.After-block-end Inv-loop μ-loop → tie.In-loop Inv-loop μ-loop
 turn-of c = search c
 

@@ -1,4 +1,4 @@
--- `journal_call::pieces::smaller` meets its contract: each return is the smaller by the one test.
+-- `journal_call::pieces::smaller` meets its contract: each return is the smaller number, by the test.
 use borrow.Author.Needs.{needs}
 use Rattle.journal_call.proofs.pieces.smaller.Statement.{statement}
 use Rattle.journal_call.proofs.pieces.smaller.Tie as tie

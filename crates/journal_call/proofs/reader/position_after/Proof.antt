@@ -1,4 +1,4 @@
--- `journal_call::reader::position_after` meets its contract: the position after the entries that are left is the same in every turn.
+-- `journal_call::reader::position_after` meets its contract: the position after the entries left is the same at every turn.
 use mathlib.Core.Path.{_≡_, sym, ap, _∙_}
 use Prim.Native.Nat.{suc, _+_, _-_, _≤_}
 use native.Mathlib.Omega.{arith}

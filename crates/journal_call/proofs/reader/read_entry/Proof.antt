@@ -1,4 +1,4 @@
--- `journal_call::reader::read_entry` meets its contract: each return by the tests that led there, a whole entry by `whole-entry` at its bit map.
+-- `journal_call::reader::read_entry` meets its contract: each return follows from the tests before it; for a complete entry, from `whole-entry` at its bit map.
 use Prim.Native.Nat.{ℕ, _+_, _≤_}
 use mathlib.Core.Path.{_≡_, sym, ap, _∙_}
 use native.Mathlib.Omega.{arith}

@@ -1,4 +1,4 @@
--- `journal_call::reader::read_some` meets its contract: entries are read one after another.
+-- `journal_call::reader::read_some` meets its contract: entries are read in order.
 use mathlib.Core.Path.{sym, _∙_}
 use Prim.Native.Nat.{_-_, _≤_}
 use native.Mathlib.Omega.{arith}

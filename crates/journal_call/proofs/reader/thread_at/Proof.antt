@@ -1,4 +1,4 @@
--- `journal_call::reader::thread_at` meets its contract: the two bytes after the bit map, where it gives them.
+-- `journal_call::reader::thread_at` meets its contract: the two bytes after the bit map, if it has their bit.
 use mathlib.Core.Path.{ap, _∙_}
 use mathlib.Core.Bool.{cond}
 use Prim.Native.Nat.{_%_}

@@ -1,4 +1,4 @@
--- `journal_call::step_check::check_steps` meets its contract: refused before the steps, or checked piece by piece on the state's arrays, which fit what its type fixes.
+-- `journal_call::step_check::check_steps` meets its contract: refused before the steps, or checked piece by piece on the state's arrays, whose lengths the type fixes.
 use mathlib.Core.Path.{refl}
 use Rattle.lock.proofs.steps.Typing.{typed}
 use Rattle.journal_call.proofs.step_check.Answering.{refused-answered, ready, kinds-long, domains-long, steps-answered}

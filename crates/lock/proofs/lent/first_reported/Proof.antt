@@ -1,4 +1,4 @@
--- `lock::lent::first_reported` meets its contract: of no entry nothing, else what the first one's number tells.
+-- `lock::lent::first_reported` meets its contract: nothing for an empty schedule, otherwise what the number of the first step encodes.
 use native.Mathlib.Omega.{arith}
 use borrow.Author.Tests.{eq-eqb, ne-eqb}
 use borrow.Author.Needs.{needs}

@@ -7,7 +7,7 @@ use borrow.Author.Needs.{needs}
 use Rattle.lock.proofs.lent.run_tested.Statement.{statement}
 use Rattle.lock.proofs.lent.run_tested.Tie as tie
 
--- where the loop is called, where the tests are passed and made, and the start
+-- earlier points of the code: the start, after the tests, and where they have passed
 abbrev start : tie.After-refusal-of → tie.Start
 start asked = asked .before .before .before .before .before .before .before .before .before .before .before .before .before .before .before
 

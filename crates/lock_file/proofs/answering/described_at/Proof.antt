@@ -1,4 +1,4 @@
--- `lock_file::answering::described_at` meets its contract: as many turns as two bytes each leave room for.
+-- `lock_file::answering::described_at` meets its contract: there is one schedule entry for every two bytes left.
 use borrow.Author.Needs.{needs}
 use Rattle.lock_file.specs.Reading.{entries-at}
 use Rattle.lock_file.specs.Answers.{reading-reply}

@@ -1,4 +1,4 @@
--- `lock_file::reading::byte_at` meets its contract: after the list stands the default.
+-- `lock_file::reading::byte_at` meets its contract: after the end of the list the default is returned.
 use mathlib.Core.Path.{sym}
 use lib.ListN.{List·getD-eq-default}
 use borrow.Author.Needs.{needs}

@@ -1,4 +1,4 @@
--- `lock_file::reading::domain_end_at` meets its contract: the end of an entry of the size that its map gives, which is not 0.
+-- `lock_file::reading::domain_end_at` meets its contract: the end of an entry of the size given by its bit map, which is not 0.
 use native.Mathlib.Omega.{arith}
 use borrow.Author.Needs.{needs}
 use Rattle.lock_file.specs.Reading.{domain-size, domain-end}

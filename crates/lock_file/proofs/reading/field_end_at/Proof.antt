@@ -1,4 +1,4 @@
--- `lock_file::reading::field_end_at` meets its contract: the size is not 0, so at the file's end and after it too little is left; before it, what is left decides.
+-- `lock_file::reading::field_end_at` meets its contract: the size is not 0, so at the file's end and after it too few bytes are left; before it, the number of bytes left decides.
 use Prim.Native.Nat.{_-_, _<_}
 use native.Mathlib.Omega.{arith}
 use lib.ListN.{length}

@@ -1,4 +1,4 @@
--- `lock_file::reading::read_domains` meets its contract: an empty file is at its end; in any other the first byte tells how many domains are read.
+-- `lock_file::reading::read_domains` meets its contract: an empty file is at its end; in any other the first byte gives the number of domains.
 use borrow.Author.Tests.{eq-eqb, ne-eqb}
 use borrow.Author.Needs.{needs}
 use Rattle.lock_file.specs.Reading.{domains-read}

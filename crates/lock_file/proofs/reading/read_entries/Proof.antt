@@ -1,4 +1,4 @@
--- `lock_file::reading::read_entries` meets its contract: what is left to store gives what the whole gives.
+-- `lock_file::reading::read_entries` meets its contract: at each turn of the loop, the remaining stores give the result of the whole.
 use mathlib.Core.Path.{_≡_, refl, sym, _∙_}
 use Prim.Native.Nat.{_+_, _*_, _-_, _≤_}
 use native.Mathlib.Nat.{sub-zero}

@@ -1,4 +1,4 @@
--- `lock_file::reading::read_threads` meets its contract: how far reading came decides: the threads from there, or stopped where it was.
+-- `lock_file::reading::read_threads` meets its contract: the threads are read from the position reached; if reading has stopped, it stays stopped.
 use borrow.Author.Needs.{needs}
 use Rattle.lock_file.specs.Reading.{threads-read}
 use Rattle.lock_file.proofs.reading.read_threads.Statement.{statement}

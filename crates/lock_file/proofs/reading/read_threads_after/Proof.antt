@@ -1,4 +1,4 @@
--- `lock_file::reading::read_threads_after` meets its contract: where two bytes are left they tell how many threads are read; else stopped where the field ended.
+-- `lock_file::reading::read_threads_after` meets its contract: if two bytes are left, they give the number of threads; otherwise reading stops at the end of the field.
 use mathlib.Core.Path.{sym, _∙_}
 use borrow.Author.Needs.{needs}
 use Rattle.lock_file.specs.Reading.{threads-after}

@@ -1,4 +1,4 @@
--- `lock_file::reading::read_threads_from` meets its contract: what is left to read gives what the whole gives.
+-- `lock_file::reading::read_threads_from` meets its contract: at each turn of the loop, the remaining entries give the result of the whole.
 use mathlib.Core.Path.{_≡_, sym, _∙_}
 use Prim.Native.Nat.{_-_}
 use native.Mathlib.Nat.{sub-zero}

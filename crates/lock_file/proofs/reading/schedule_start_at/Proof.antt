@@ -1,4 +1,4 @@
--- `lock_file::reading::schedule_start_at` meets its contract: at the file's end and after it no byte is left, which is even; before it, whether the bytes left are even decides.
+-- `lock_file::reading::schedule_start_at` meets its contract: at the file's end and after it 0 bytes are left, which is even; before it, the parity of the bytes left decides.
 use mathlib.Core.Path.{_≡_}
 use Prim.Native.Nat.{_-_}
 use native.Mathlib.Omega.{arith}

@@ -1,4 +1,4 @@
--- `lock_file::reading::schedule_start_of` meets its contract: how far reading came decides: the schedule from there, or stopped where it was.
+-- `lock_file::reading::schedule_start_of` meets its contract: the schedule starts at the position reached; if reading has stopped, it stays stopped.
 use borrow.Author.Needs.{needs}
 use Rattle.lock_file.specs.Reading.{schedule-start}
 use Rattle.lock_file.proofs.reading.schedule_start_of.Statement.{statement}

@@ -1,4 +1,4 @@
--- `lock_file::reading::thread_count_of` meets its contract: how far reading came decides: the two bytes there, or 0.
+-- `lock_file::reading::thread_count_of` meets its contract: the two bytes at the position reached, or 0.
 use borrow.Author.Needs.{needs}
 use Rattle.lock_file.specs.Reading.{thread-count}
 use Rattle.lock_file.proofs.reading.thread_count_of.Statement.{statement}

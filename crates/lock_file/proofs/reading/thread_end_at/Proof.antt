@@ -1,4 +1,4 @@
--- `lock_file::reading::thread_end_at` meets its contract: the end of an entry of one byte, and one more where bit 0 of its map is set.
+-- `lock_file::reading::thread_end_at` meets its contract: the end of an entry of one byte, and of one more if bit 0 of its map is set.
 use borrow.Author.Needs.{needs}
 use Rattle.lock_file.specs.Reading.{thread-end}
 use Rattle.lock_file.proofs.reading.thread_end_at.Statement.{statement}

@@ -1,4 +1,4 @@
--- `lock_file::reading::tree_of` meets its contract: each word is what its own function reads, and the definition reads the same.
+-- `lock_file::reading::tree_of` meets its contract: each word is what its own function reads, as in the definition.
 use borrow.Author.Needs.{needs}
 use Rattle.lock_file.specs.Reading.{tree-read}
 use Rattle.lock_file.proofs.reading.tree_of.Statement.{statement}

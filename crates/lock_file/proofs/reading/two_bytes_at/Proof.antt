@@ -1,4 +1,4 @@
--- `lock_file::reading::two_bytes_at` meets its contract: after the list stands the default.
+-- `lock_file::reading::two_bytes_at` meets its contract: after the end of the list the default is returned.
 use Prim.Native.Nat.{_+_, _≤_}
 use native.Mathlib.Omega.{arith}
 use lib.ListN.{length, List·getD-eq-default}

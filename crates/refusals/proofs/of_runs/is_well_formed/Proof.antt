@@ -1,4 +1,4 @@
--- `refusals::of_runs::is_well_formed` meets its contract: the root, the room that the tree lacks, the domains and the threads are the state's parts.
+-- `refusals::of_runs::is_well_formed` meets its contract: the root, the unused slots, the domains and the threads are the parts of the state.
 use mathlib.Core.Path.{sym, _∙_}
 use mathlib.Core.Bool.{true, false}
 use borrow.Author.Tests.{not-true, not-false}

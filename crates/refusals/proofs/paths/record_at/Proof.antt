@@ -1,4 +1,4 @@
--- `refusals::paths::record_at` meets its contract: a thread at home has its own record, any other that of the domain's child on its path, which is below 320.
+-- `refusals::paths::record_at` meets its contract: a thread at home uses its own record, otherwise that of the domain's child on its path, which is below 320.
 use mathlib.Core.Path.{ap, _∙_}
 use native.Mathlib.Omega.{arith}
 use borrow.Author.Tests.{eq-eqb, ne-eqb}

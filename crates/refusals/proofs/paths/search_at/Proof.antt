@@ -1,4 +1,4 @@
--- `refusals::paths::search_at` meets its contract: from the domain reached on, with the levels left and the domains looked at, the search gives what the whole gives.
+-- `refusals::paths::search_at` meets its contract: at each turn of the loop, the search from the domain reached gives the result of the whole.
 use mathlib.Core.Path.{_≡_, refl, sym, _∙_}
 use Prim.Native.Nat.{_+_, _-_, _≤_, _<_}
 use native.Mathlib.Omega.{arith}

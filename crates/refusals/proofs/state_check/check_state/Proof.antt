@@ -1,4 +1,4 @@
--- `refusals::state_check::check_state` meets its contract: the tests of a run of no entries.
+-- `refusals::state_check::check_state` meets its contract: the tests of an empty run.
 use mathlib.Core.Path.{ap, _∙_}
 use borrow.Author.Needs.{needs}
 use Rattle.refusals.specs.Arrays.{refusal-words}

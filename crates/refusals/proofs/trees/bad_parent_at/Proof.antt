@@ -1,4 +1,4 @@
--- `refusals::trees::bad_parent_at` meets its contract: false at the root, and elsewhere the parent is the word that the tree reads.
+-- `refusals::trees::bad_parent_at` meets its contract: false at the root; elsewhere the parent is the word that the tree reads.
 use borrow.Author.Tests.{eq-eqb, ne-eqb}
 use native.Mathlib.Omega.{arith}
 use mathlib.Core.List.{[]}

@@ -1,4 +1,4 @@
--- `refusals::trees::domains_pass` meets its contract: the domains passed fail none of 6 to 8.
+-- `refusals::trees::domains_pass` meets its contract: the domains so far fail none of 6 to 8.
 use mathlib.Core.Path.{_∙_}
 use mathlib.Core.Bool.{false≢true}
 use Prim.Native.Nat.{_≤_, _<_, _-_}

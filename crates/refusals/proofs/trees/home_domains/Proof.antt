@@ -1,4 +1,4 @@
--- `refusals::trees::home_domains` meets its contract: the homes of the threads passed are marked.
+-- `refusals::trees::home_domains` meets its contract: the homes of the threads so far are marked.
 use mathlib.Core.Path.{_≡_}
 use Prim.Native.Nat.{_≤_, _-_}
 use native.Mathlib.Omega.{arith}

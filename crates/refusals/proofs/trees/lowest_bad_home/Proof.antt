@@ -1,4 +1,4 @@
--- `refusals::trees::lowest_bad_home` meets its contract: all threads passed have good homes.
+-- `refusals::trees::lowest_bad_home` meets its contract: all threads so far have good homes.
 use mathlib.Core.Path.{sym, _∙_}
 use mathlib.Core.List.{[]}
 use Prim.Native.Nat.{_-_}

@@ -1,4 +1,4 @@
--- `refusals::trees::lowest_bad_parent` meets its contract: all domains passed have good parents.
+-- `refusals::trees::lowest_bad_parent` meets its contract: all domains so far have good parents.
 use mathlib.Core.Path.{sym, _∙_}
 use Prim.Native.Nat.{_-_}
 use native.Mathlib.Omega.{arith}

@@ -1,4 +1,4 @@
--- `refusals::trees::lowest_empty` meets its contract: all domains passed are marked.
+-- `refusals::trees::lowest_empty` meets its contract: all domains so far are marked.
 use mathlib.Core.Bool.{false, not}
 use Prim.Native.Nat.{_-_}
 use native.Mathlib.Omega.{arith}

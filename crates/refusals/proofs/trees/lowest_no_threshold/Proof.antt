@@ -1,4 +1,4 @@
--- `refusals::trees::lowest_no_threshold` meets its contract: all domains passed have thresholds.
+-- `refusals::trees::lowest_no_threshold` meets its contract: all domains so far have thresholds.
 use mathlib.Core.Path.{sym, _∙_}
 use mathlib.Core.List.{[]}
 use Prim.Native.Nat.{_-_}

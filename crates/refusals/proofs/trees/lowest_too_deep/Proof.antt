@@ -1,4 +1,4 @@
--- `refusals::trees::lowest_too_deep` meets its contract: the levels of the domains passed are in the array, and are few.
+-- `refusals::trees::lowest_too_deep` meets its contract: the levels of the domains so far are in the array, and are small.
 use Prim.Native.Nat.{_≤_, _<_, _-_}
 use native.Mathlib.Omega.{arith}
 use Rattle.refusals.proofs.Levels.{Levels, levels-first, levels-next, level-passes, level-fails}

@@ -1,4 +1,4 @@
--- `refusals::trees::mark_unfit_homes` meets its contract: the parents of the domains passed are marked.
+-- `refusals::trees::mark_unfit_homes` meets its contract: the parents of the domains so far are marked.
 use Prim.Native.Nat.{_≤_, _<_, _-_}
 use native.Mathlib.Omega.{arith}
 use Rattle.refusals.proofs.Homes.{Marked, marked-first, marked-next, marked-all}

@@ -1,4 +1,4 @@
--- `refusals::trees::no_domains` meets its contract: the domains passed are unmarked.
+-- `refusals::trees::no_domains` meets its contract: the domains so far are unmarked.
 use Prim.Native.Nat.{_≤_, _-_}
 use native.Mathlib.Omega.{arith}
 use Rattle.refusals.specs.Arrays.{No-domains}

@@ -1,4 +1,4 @@
--- `refusals::trees::occupied` meets its contract: the parents of the marked domains passed are marked.
+-- `refusals::trees::occupied` meets its contract: the parents of the marked domains so far are marked.
 use mathlib.Core.Logic.{⊎-elim}
 use Prim.Native.Nat.{_≤_, _<_}
 use native.Mathlib.Omega.{arith}

@@ -1,4 +1,4 @@
--- `rows::acquire::draw` draws a ticket, and starts a tenure where it is the one shown.
+-- `rows::acquire::draw` meets its contract: it draws a ticket, and starts a tenure if the grant shows it.
 use mathlib.Core.Path.{refl}
 use borrow.Author.Tests.{eq-eqb, ne-eqb}
 use Rattle.model.specs.Steps.{draw-row}

@@ -1,4 +1,4 @@
--- `rows::acquire::link` does Link.
+-- `rows::acquire::link` meets its contract: it does Link.
 use mathlib.Core.Path.{refl}
 use Rattle.model.specs.Steps.{link-row}
 use borrow.Author.Needs.{needs}

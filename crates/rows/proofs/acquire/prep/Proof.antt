@@ -1,4 +1,4 @@
--- `rows::acquire::prep` does Prep.
+-- `rows::acquire::prep` meets its contract: it does Prep.
 use mathlib.Core.Path.{_≡_, refl}
 use mathlib.Core.Bool.{Bool, true, false, cond}
 use Prim.Native.Nat.{ℕ}
@@ -11,7 +11,7 @@ use borrow.Author.Needs.{needs}
 use Rattle.rows.proofs.acquire.prep.Statement.{statement}
 use Rattle.rows.proofs.acquire.prep.Tie as tie
 
--- one row for both: the word is chosen
+-- one row for both cases, with the word chosen by the domain
 chosen : (t : Tree) (i l : ℕ) (s : State) → prep-row t i l s ≡ prep-with t i l (root-word l locked wait-word) s
 unfolding prep-row
 chosen t i l s = by (eqb l 0)

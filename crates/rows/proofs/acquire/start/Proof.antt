@@ -1,4 +1,4 @@
--- `rows::acquire::start` draws at a ticket root, and prepares elsewhere.
+-- `rows::acquire::start` meets its contract: it draws at a ticket root, and does Prep elsewhere.
 use mathlib.Core.Path.{refl, sym, _∙_}
 use denote.Ref.{now}
 use Rattle.model.specs.States.{with-ticket}

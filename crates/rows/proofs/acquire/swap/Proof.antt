@@ -1,4 +1,4 @@
--- `rows::acquire::swap` does Swap, and starts a tenure where it finds none.
+-- `rows::acquire::swap` meets its contract: it does Swap, and starts a tenure if it finds no tail.
 use mathlib.Core.Path.{refl}
 use borrow.Author.Tests.{eq-eqb, ne-eqb}
 use Rattle.model.specs.Steps.{swap-row}

@@ -1,4 +1,4 @@
--- `rows::acquire::wait` does Wait.
+-- `rows::acquire::wait` meets its contract: it does Wait.
 use mathlib.Core.Path.{refl}
 use borrow.Author.Tests.{eq-eqb, ne-eqb}
 use Rattle.model.specs.Steps.{wait-row}

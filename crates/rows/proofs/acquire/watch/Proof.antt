@@ -1,4 +1,4 @@
--- `rows::acquire::watch` does Watch.
+-- `rows::acquire::watch` meets its contract: it does Watch.
 use mathlib.Core.Path.{_≡_, refl}
 use mathlib.Core.Bool.{false}
 use lib.Dec.{eqb}

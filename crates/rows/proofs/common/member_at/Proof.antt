@@ -1,4 +1,4 @@
--- `rows::common::member_at` is the thread as a member of the domain.
+-- `rows::common::member_at` meets its contract: the thread as a member of the domain.
 use mathlib.Core.Path.{refl, ap, _∙_}
 use native.Mathlib.Omega.{arith}
 use Rattle.model.specs.declared.Found.{Found}

@@ -1,4 +1,4 @@
--- `rows::release::cas` does Cas.
+-- `rows::release::cas` meets its contract: it does Cas.
 use mathlib.Core.Path.{refl}
 use borrow.Author.Tests.{eq-eqb, ne-eqb}
 use Rattle.model.specs.Steps.{cas-row}

@@ -1,4 +1,4 @@
--- `rows::release::check` does Check, and tells the length of a tenure that goes on.
+-- `rows::release::check` meets its contract: it does Check, and reports the length of a tenure that continues.
 use mathlib.Core.Path.{refl}
 use native.Mathlib.Nat.{mod-eq-of-lt}
 use borrow.Author.Tests.{eq-eqb, ne-eqb, lt-ltb, le-ltb}

@@ -1,4 +1,4 @@
--- `rows::release::grant` does Grant.
+-- `rows::release::grant` meets its contract: it does Grant.
 use mathlib.Core.Path.{refl}
 use Rattle.model.specs.Steps.{grant-row}
 use Rattle.rows.proofs.release.Leaving.{done-is}

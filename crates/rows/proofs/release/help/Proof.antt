@@ -1,4 +1,4 @@
--- `rows::release::help` does Help.
+-- `rows::release::help` meets its contract: it does Help.
 use mathlib.Core.Path.{refl}
 use borrow.Author.Tests.{eq-eqb, ne-eqb}
 use Rattle.model.specs.Steps.{help-row}

@@ -1,4 +1,4 @@
--- `rows::release::leave` leaves.
+-- `rows::release::leave` meets its contract: the thread leaves.
 use mathlib.Core.Path.{refl}
 use Rattle.model.specs.Steps.{leave-row}
 use Rattle.rows.proofs.release.Leaving.{release-is}

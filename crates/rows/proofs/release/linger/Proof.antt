@@ -1,4 +1,4 @@
--- `rows::release::linger` does Linger.
+-- `rows::release::linger` meets its contract: it does Linger.
 use mathlib.Core.Path.{refl}
 use borrow.Author.Tests.{eq-eqb, ne-eqb}
 use Rattle.model.specs.Steps.{linger-row}

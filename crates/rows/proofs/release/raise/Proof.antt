@@ -1,4 +1,4 @@
--- `rows::release::raise` does Raise.
+-- `rows::release::raise` meets its contract: it does Raise.
 use mathlib.Core.Path.{refl}
 use Rattle.model.specs.Steps.{raise-row}
 use Rattle.rows.proofs.release.Leaving.{root-done}

@@ -1,4 +1,4 @@
--- `rows::step::take` takes the row of the place: each arm is that row.
+-- `rows::step::take` meets its contract: each arm is the row of the place.
 use mathlib.Core.Path.{refl, sym, ap, _∙_}
 use mathlib.Core.Bool.{cond}
 use native.Mathlib.Omega.{arith}

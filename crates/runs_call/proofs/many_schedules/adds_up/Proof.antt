@@ -1,4 +1,4 @@
--- `runs_call::many_schedules::adds_up` meets its contract: what is left of the entries, and the lengths still ahead.
+-- `runs_call::many_schedules::adds_up` meets its contract: at each turn, the entries left and the lengths left.
 use mathlib.Core.Path.{_≡_}
 use Prim.Native.Nat.{_+_, _-_}
 use native.Mathlib.Omega.{arith}

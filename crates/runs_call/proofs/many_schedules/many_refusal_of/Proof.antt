@@ -1,4 +1,4 @@
--- `runs_call::many_schedules::many_refusal_of` meets its contract: the tree's tests, then the two of its own.
+-- `runs_call::many_schedules::many_refusal_of` meets its contract: the tests of the tree, then 22 and 23.
 use mathlib.Core.Path.{sym, _∙_}
 use mathlib.Core.Bool.{true, false}
 use Rattle.model.specs.Refusals.{refusal, accepted}

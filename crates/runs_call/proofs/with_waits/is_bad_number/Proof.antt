@@ -1,4 +1,4 @@
--- `runs_call::with_waits::is_bad_number` meets its contract: above 2^63, a thread's number, or any other, each by its own test.
+-- `runs_call::with_waits::is_bad_number` meets its contract: above 2^63, a thread's number, or any other, each by its test.
 use borrow.Author.Tests.{lt-ltb, le-ltb, lt-leb, le-leb}
 use Rattle.runs_call.proofs.with_waits.is_bad_number.Statement.{statement}
 use Rattle.runs_call.proofs.with_waits.is_bad_number.Tie as tie

@@ -1,4 +1,4 @@
--- `runs_call::with_waits::lowest_bad_number` meets its contract: all numbers passed can be.
+-- `runs_call::with_waits::lowest_bad_number` meets its contract: all numbers so far are valid.
 use mathlib.Core.Path.{_≡_, sym, _∙_}
 use mathlib.Core.Bool.{false}
 use Prim.Native.Nat.{ℕ, _≤_, _<_, _-_}

@@ -1,4 +1,4 @@
--- `runs_call::with_waits::mean_of` meets its contract: without attempts 0 over 0; with them the greatest common divisor is not 0, and both are divided by it.
+-- `runs_call::with_waits::mean_of` meets its contract: 0 over 0 without attempts; otherwise the greatest common divisor is not 0, and both numbers are divided by it.
 use native.Mathlib.Omega.{arith}
 use borrow.Author.Needs.{needs}
 use borrow.Author.Tests.{eq-eqb, ne-eqb}

@@ -1,4 +1,4 @@
--- `runs_call::with_waits::run_waits` meets its contract: the run that goes on, with zeros, on the state's arrays.
+-- `runs_call::with_waits::run_waits` meets its contract: the run that continues, with zeros, on the state's arrays.
 use mathlib.Core.Path.{_∙_}
 use Rattle.waits.specs.GoingOn.{Zeros-law}
 use Rattle.waits.proofs.Zeros.{zeros-law}

@@ -1,4 +1,4 @@
--- `runs_call::with_waits::run_waits_on` meets its contract: the run on the state's arrays, which fit what its type fixes.
+-- `runs_call::with_waits::run_waits_on` meets its contract: the run on the state's arrays, whose lengths the type fixes.
 use Rattle.lock.proofs.steps.Typing.{typed}
 use borrow.Author.Needs.{needs}
 use Rattle.runs_call.proofs.with_waits.run_waits_on.Statement.{statement}

@@ -1,4 +1,4 @@
--- `runs_call::with_waits::waits_refusal_of` meets its contract: the run's tests but 19, then the one of its own.
+-- `runs_call::with_waits::waits_refusal_of` meets its contract: the tests of the run except 19, then 18.
 use Rattle.model.specs.Trees.{tree-of}
 use Rattle.model.specs.Refusals.{refusal}
 use Rattle.runs_call.proofs.with_waits.Answering.{run-answered, room-answered, acceptance-answered}

@@ -1,4 +1,4 @@
--- `text_tree_call::domains::+read_domain+read_list`. The proof of the cycle of calls {read_domain, read_list}: the measure is the levels left, twice, and one more for a list.
+-- `text_tree_call::domains::+read_domain+read_list` meets its contract. The cycle of calls {read_domain, read_list} ends: the measure is twice the levels left, plus one for a list.
 use mathlib.Core.Path.{refl, sym, _∙_}
 use native.Mathlib.Omega.{arith}
 use borrow.Author.Needs.{needs}

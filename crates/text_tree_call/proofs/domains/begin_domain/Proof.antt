@@ -1,4 +1,4 @@
--- `text_tree_call::domains::begin_domain` meets its contract: stuck without a threshold or a parenthesis after it, else one domain more, whose threshold fits 16 bits.
+-- `text_tree_call::domains::begin_domain` meets its contract: stuck without a threshold or a parenthesis after it; otherwise one more domain, whose threshold fits in 16 bits.
 use mathlib.Core.Path.{sym, _∙_}
 use native.Mathlib.Omega.{arith}
 use lib.Dec.{lit<}

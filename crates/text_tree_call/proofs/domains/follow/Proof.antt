@@ -1,4 +1,4 @@
--- `text_tree_call::domains::follow` meets its contract: stuck stays stuck; else the byte after the domain decides, a space, a closing parenthesis or another.
+-- `text_tree_call::domains::follow` meets its contract: stuck stays stuck; otherwise the byte after the domain decides: a space, a closing parenthesis or another.
 use mathlib.Core.Path.{sym, _∙_}
 use native.Mathlib.Omega.{arith}
 use lib.Dec.{lit<}

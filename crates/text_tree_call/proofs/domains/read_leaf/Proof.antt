@@ -1,4 +1,4 @@
--- `text_tree_call::domains::read_leaf` meets its contract: stuck without a count or a parenthesis after it, else so many threads more.
+-- `text_tree_call::domains::read_leaf` meets its contract: stuck without a count or a parenthesis after it; otherwise that many more threads.
 use mathlib.Core.Path.{sym, _∙_}
 use native.Mathlib.Omega.{arith}
 use lib.Dec.{lit<}

@@ -1,4 +1,4 @@
--- `text_tree_call::domains::read_root` meets its contract: stuck without an opening parenthesis, else the root is read as a domain with five levels left.
+-- `text_tree_call::domains::read_root` meets its contract: stuck without an opening parenthesis; otherwise the root is read as a domain with five levels left.
 use mathlib.Core.Path.{sym, _∙_}
 use Rattle.text_tree_call.proofs.Parts.{root-opens, root-stuck}
 use borrow.Author.Needs.{needs}

@@ -1,4 +1,4 @@
--- `text_tree_call::numbers::byte_at` meets its contract: after the text stands the default.
+-- `text_tree_call::numbers::byte_at` meets its contract: after the end of the text the default is returned.
 use mathlib.Core.Path.{sym}
 use lib.ListN.{List·getD-eq-default}
 use borrow.Author.Needs.{needs}

@@ -1,4 +1,4 @@
--- `text_tree_call::numbers::grow_count` meets its contract: the number grown by a digit, cut at 257 by the definition's test.
+-- `text_tree_call::numbers::grow_count` meets its contract: the number with one more digit, capped at 257 by the definition's test.
 use borrow.Author.Tests.{lt-ltb, le-ltb}
 use Rattle.text_tree.specs.Words.{least}
 use borrow.Author.Needs.{needs}

@@ -1,4 +1,4 @@
--- `text_tree_call::numbers::grows_with` meets its contract: no number grows with a byte that is no digit; with a digit, the grown number decides.
+-- `text_tree_call::numbers::grows_with` meets its contract: false for a byte that is no digit; for a digit, the number with this digit decides.
 use mathlib.Core.Path.{sym, _∙_}
 use borrow.Author.Tests.{not-true, not-false}
 use Rattle.text_tree.proofs.Digits.{digit-bounds}

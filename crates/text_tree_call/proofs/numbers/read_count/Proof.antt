@@ -1,4 +1,4 @@
--- `text_tree_call::numbers::read_count` meets its contract: stopped without a first digit; with one, the reading goes on from its value.
+-- `text_tree_call::numbers::read_count` meets its contract: stopped without a first digit; with one, reading continues from its value.
 use mathlib.Core.Path.{sym, _∙_, ap}
 use Prim.Native.Nat.{_-_}
 use native.Mathlib.Omega.{arith}

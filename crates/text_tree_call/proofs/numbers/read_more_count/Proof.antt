@@ -1,4 +1,4 @@
--- `text_tree_call::numbers::read_more_count` meets its contract: digit by digit, the text comes to the same.
+-- `text_tree_call::numbers::read_more_count` meets its contract: digit by digit, the result of the text is the same.
 use mathlib.Core.Path.{_≡_, refl, sym, _∙_, ap}
 use mathlib.Core.List.{List}
 use Prim.Native.Nat.{ℕ, _-_, _≤_}

@@ -1,4 +1,4 @@
--- `text_tree_call::tree::add_domain` meets its contract: from 64 domains on no word is stored; below, the parent and the threshold are, at the new domain's index.
+-- `text_tree_call::tree::add_domain` meets its contract: from 64 domains on no word is stored; below 64, parent and threshold are stored at the new domain's index.
 use borrow.Author.Tests.{le-leb, lt-leb}
 use Rattle.text_tree.specs.Words.{domain-added}
 use borrow.Author.Needs.{needs}

@@ -1,4 +1,4 @@
--- `text_tree_call::tree::add_threads` meets its contract: the counts are cut at 257 and 256 as the definition cuts them, so the sum fits and the homes are in the array.
+-- `text_tree_call::tree::add_threads` meets its contract: the counts are capped at 257 and 256 as in the definition, so the sum fits and the homes are in the array.
 use Prim.Native.Nat.{_-_}
 use native.Mathlib.Omega.{arith}
 use Rattle.text_tree.specs.Words.{threads-added, threads-after}

@@ -1,4 +1,4 @@
--- `text_tree_call::tree::fill_homes` meets its contract: what is left to fill gives what the whole gives.
+-- `text_tree_call::tree::fill_homes` meets its contract: at each turn of the loop, what remains to fill gives the result of the whole.
 use mathlib.Core.Path.{_≡_, refl, sym, _∙_}
 use Prim.Native.Nat.{_-_}
 use borrow.Author.Needs.{needs}

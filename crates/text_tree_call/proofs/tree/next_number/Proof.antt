@@ -1,4 +1,4 @@
--- `text_tree_call::tree::next_number` meets its contract: below 64 the number itself, which fits a byte, and from there on 64.
+-- `text_tree_call::tree::next_number` meets its contract: below 64 the number itself, which fits in a byte, and from there on 64.
 use borrow.Author.Tests.{lt-ltb, le-ltb}
 use Rattle.text_tree.specs.Words.{new-number}
 use borrow.Author.Needs.{needs}

@@ -1,4 +1,4 @@
-//! The longest waits of a tree: nanoseconds a call, which grows with the room and not with the numbers.
+//! The longest waits of a tree: nanoseconds per call, which grow with the array sizes and not with the numbers.
 
 use crate::{draft_with_schedule, shapes, time, CALLS, ROUNDS, SCHEDULES};
 use reference::bounds::{wait_bounds, WaitBounds};
@@ -9,14 +9,14 @@ use reference::random_state::tree_words;
 use reference::table::THREAD_ROOM;
 use reference::words::TreeWords;
 
-/// The best of the rounds, in nanoseconds a call.
+/// The best of the rounds, in nanoseconds per call.
 fn cost(call: WaitBounds, tree: &TreeWords) -> f64 {
     let mut buffer = [0; THREAD_ROOM];
     let calls = |buffer: &mut [u64; THREAD_ROOM]| (0..CALLS).for_each(|_| assert_eq!(call(opaque(tree), buffer).0, 0));
     (0..ROUNDS).map(|_| time(|| calls(&mut buffer))).fold(f64::MAX, f64::min) / CALLS as f64
 }
 
-/// Prints the table; its ratios stay out of the worst one, since the reference makes lists.
+/// Prints the table. Its ratios do not count toward the worst one, because the reference builds lists.
 pub fn print() {
     println!("longest waits: nanoseconds a call, of the reference and the library");
     for shape in shapes(false) {

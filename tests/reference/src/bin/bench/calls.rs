@@ -1,4 +1,4 @@
-//! The run on a caller's state: what each step adds to a run of one entry; and single steps.
+//! The run on a caller's state: what each step adds to a run of one entry. Also single steps.
 
 use crate::{draft_with_schedule, print_head, print_line, shapes, time, Shape, Worst, ROUNDS, SCHEDULES};
 use reference::calls::{Calls, TABLE};
@@ -10,7 +10,7 @@ use reference::refusals::LONGEST_SCHEDULE;
 use reference::schedules::Style;
 use reference::words::{StateWords, TreeWords};
 
-/// Nanoseconds of a whole run and of its first entry alone, from a fresh state; and, from the state that the whole run leaves, of a run of one entry, a single step and a step in place.
+/// Nanoseconds of a whole run and of its first entry alone, from a fresh state. Also, from the state after the whole run, of a run of one entry, a single step and a step in place.
 #[derive(Clone, Copy)]
 struct Cost {
     run: f64,
@@ -23,7 +23,7 @@ struct Cost {
 impl Cost {
     const NONE: Cost = Cost { run: f64::MAX, first: f64::MAX, one: f64::MAX, step: f64::MAX, in_place: f64::MAX };
 
-    /// Microseconds a run and nanoseconds a step.
+    /// Microseconds per run and nanoseconds per step.
     fn columns(&self) -> [f64; 2] {
         [self.run / 1000.0, (self.run - self.first) / (LONGEST_SCHEDULE - 1) as f64]
     }
@@ -40,7 +40,7 @@ impl Cost {
     }
 }
 
-/// The best of several measurements of a call so short that other work on the machine shows in it.
+/// The best of several measurements of a call so short that other work on the machine affects it.
 fn best(mut measure: impl FnMut() -> f64) -> f64 {
     (0..ROUNDS).map(|_| measure()).fold(f64::MAX, f64::min)
 }
@@ -60,7 +60,7 @@ fn round(calls: Calls, tree: &TreeWords, schedule: &[u16], after: &StateWords, t
     }
 }
 
-/// The best of the rounds, in each of which every program has its turn.
+/// The best of the rounds. In each round every program runs once.
 fn costs(programs: &[Calls], tree: &TreeWords, schedule: &[u16]) -> Vec<Cost> {
     let mut trace = vec![0; LONGEST_SCHEDULE];
     let after = (TABLE.run)(tree, &StateWords::fresh(), schedule, &mut trace).state;
@@ -73,7 +73,7 @@ fn costs(programs: &[Calls], tree: &TreeWords, schedule: &[u16]) -> Vec<Cost> {
     best
 }
 
-/// The step table turns words into a state and back at each call, so these lines stay out of the ratios.
+/// The step table converts words to a state and back in each call, so these lines do not count toward the ratios.
 fn print_single(shape: Shape, schedule: &str, costs: &[Cost]) {
     for (name, cost) in [("step table", costs[0]), ("library", costs[1])] {
         let Cost { one, step, in_place, .. } = cost;
@@ -91,7 +91,7 @@ fn print_schedule(programs: &[Calls], shape: Shape, name: &str, style: Style) ->
     (costs, ratios)
 }
 
-/// Prints the table and adds its ratios; nothing where the library lacks these calls.
+/// Prints the table and adds its ratios. Prints nothing if the library lacks these calls.
 pub fn print(worst: &mut Worst) {
     let library = match library::calls() {
         Some(library) => library,

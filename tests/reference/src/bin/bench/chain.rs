@@ -1,4 +1,4 @@
-//! The chain of a thread: microseconds a call, of the longest chain that a tree has and of a thread that waits for nobody.
+//! The chain of a thread: microseconds per call, for the longest chain of a tree and for a thread that waits for nobody.
 
 use crate::{draft, print_head, shapes, time, Shape, ROUNDS};
 use reference::chain::{chain_words, ChainCall};
@@ -9,7 +9,7 @@ use reference::random_state::tree_words;
 use reference::table::{run, State, Tree};
 use reference::words::{StateWords, TreeWords};
 
-/// Each thread in its turn goes as far as it can: the first is inside, each other waits for the one before it in a queue or for the ticket before its own.
+/// Each thread in turn goes as far as it can. The first is inside, and each other thread waits for the one before it in a queue or for the ticket before its own.
 fn crowded(tree: &Tree) -> State {
     let mut state = State::fresh();
     run(tree, &mut state, std::iter::repeat(0).take(steps_inside(tree)), &mut Vec::new());
@@ -29,7 +29,7 @@ fn steps_inside(tree: &Tree) -> usize {
     (1..100).find(enters).expect("thread 0 enters")
 }
 
-/// Nanoseconds of a call, the best of the rounds, in each of which every program has its turn; and the chain's length.
+/// Nanoseconds per call, the best of the rounds, and the length of the chain. In each round every program runs once.
 fn costs(programs: &[ChainCall], tree: &TreeWords, state: &StateWords, thread: u16) -> (Vec<f64>, u32) {
     let mut buffer = vec![0; 256];
     let mut best = vec![f64::MAX; programs.len()];
@@ -42,7 +42,7 @@ fn costs(programs: &[ChainCall], tree: &TreeWords, state: &StateWords, thread: u
     (best, length)
 }
 
-/// The thread of the longest chain.
+/// The thread with the longest chain.
 fn longest(words: &TreeWords, state: &StateWords) -> u16 {
     let length = |&thread: &u16| chain_words(words, state, thread, &mut [0; 256]).2;
     (0..words.threads as u16).max_by_key(length).expect("a thread")
@@ -59,7 +59,7 @@ fn print_shape(programs: &[ChainCall], name: &str, shape: Shape) {
     }
 }
 
-/// Prints the table; nothing where the library lacks the call. No step is taken, so its ratios stay out of the others.
+/// Prints the table. Prints nothing if the library lacks the call. No step is taken, so its ratios are kept apart from the others.
 pub fn print() {
     let library = match library::chain() {
         Some(library) => library,

@@ -15,14 +15,14 @@ struct Pair {
     empty: Vec<u8>,
 }
 
-/// Nanoseconds of a call on each of the two.
+/// Nanoseconds per call, for each of the two files.
 struct Cost {
     full: f64,
     empty: f64,
 }
 
 impl Cost {
-    /// Microseconds a file and nanoseconds a step.
+    /// Microseconds per file and nanoseconds per step.
     fn columns(&self) -> [f64; 2] {
         [self.full / 1000.0, (self.full - self.empty) / ENTRIES as f64]
     }
@@ -35,7 +35,7 @@ fn pair(shape: Shape, style: Style) -> Pair {
     Pair { full, empty: draft.write(&mut Random::new(1)) }
 }
 
-/// The best of the rounds, in each of which every file call has its turn.
+/// The best of the rounds. In each round every file call runs once.
 fn costs(calls: &[RunFile], pair: &Pair) -> Vec<Cost> {
     let mut output = vec![0; LONGEST_FILE];
     let mut measure = |call: RunFile, file: &[u8]| time(|| assert_eq!(call(opaque(file), &mut output).number, 0));
@@ -49,7 +49,7 @@ fn costs(calls: &[RunFile], pair: &Pair) -> Vec<Cost> {
     best
 }
 
-/// What a call costs before its first step, in microseconds; it stays out of the ratios.
+/// What a call costs before its first step, in microseconds. It does not count toward the ratios.
 fn print_empty(shape: Shape, costs: &[Cost]) {
     let empty: Vec<String> = costs.iter().map(|cost| format!("{:>9.2}", cost.empty / 1000.0)).collect();
     print_head("no entries", shape);
@@ -84,8 +84,8 @@ pub fn print(worst: &mut Worst) {
     }
 }
 
-/// The file call of the step table or the library, as often as is said, on one schedule of one tree: for counting instructions.
-/// Trees are numbered as they are printed, those with ticket roots from 3.
+/// Repeats the file call of the step table or the library on one schedule of one tree, for counting instructions.
+/// Trees are numbered in the order they are printed, those with ticket roots from 3.
 pub fn repeat(library: bool, schedule: usize, tree: usize, times: usize) {
     let calls: Vec<RunFile> = std::iter::once(lock_file::run_file as RunFile).chain(library::run_file()).collect();
     let call = calls[usize::from(library)];

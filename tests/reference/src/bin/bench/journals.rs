@@ -1,4 +1,4 @@
-//! The check of a journal: nanoseconds an entry, of journals that leave defaults out.
+//! The check of a journal: nanoseconds per entry, for journals that leave defaults out.
 
 use crate::{draft_with_schedule, shapes, time, Worst, ROUNDS, SCHEDULES};
 use reference::journal::{check_journal, write_journal, CheckJournal};
@@ -10,7 +10,7 @@ use reference::words::TreeWords;
 
 const ENTRIES: usize = 32_000;
 
-/// Nanoseconds of a call, the best of the rounds, in each of which every program has its turn.
+/// Nanoseconds per call, the best of the rounds. In each round every program runs once.
 fn costs(programs: &[CheckJournal], tree: &TreeWords, journal: &[u8]) -> Vec<f64> {
     let mut best = vec![f64::MAX; programs.len()];
     for _ in 0..ROUNDS {
@@ -21,7 +21,7 @@ fn costs(programs: &[CheckJournal], tree: &TreeWords, journal: &[u8]) -> Vec<f64
     best
 }
 
-/// Prints the table and adds its ratios; nothing where the library lacks the call.
+/// Prints the table and adds its ratios. Prints nothing if the library lacks the call.
 pub fn print(worst: &mut Worst) {
     let library = match library::check_journal() {
         Some(library) => library,

@@ -1,4 +1,4 @@
-//! Runs that tell their steps: nanoseconds a step, of a long schedule; and the check of a state.
+//! Runs that report their steps: nanoseconds per step, for a long schedule. Also the check of a state.
 
 use crate::{draft_with_schedule, shapes, time, Worst, ROUNDS, SCHEDULES};
 use reference::calls::{Calls, TABLE};
@@ -9,7 +9,7 @@ use reference::random::Random;
 use reference::random_state::tree_words;
 use reference::words::{StateWords, TreeWords};
 
-/// Nanoseconds of a call, the best of the rounds, in each of which every program has its turn.
+/// Nanoseconds per call, the best of the rounds. In each round every program runs once.
 fn costs(programs: &[Calls], tree: &TreeWords, schedule: &[u16]) -> Vec<f64> {
     let mut rows = vec![0; ROW * schedule.len()];
     let mut trace = vec![0; schedule.len()];
@@ -23,14 +23,14 @@ fn costs(programs: &[Calls], tree: &TreeWords, schedule: &[u16]) -> Vec<f64> {
     best
 }
 
-/// Nanoseconds of the library's check of a state, of one that some steps lead to.
+/// Nanoseconds of the library's check of a state that is reached by some steps.
 fn check_cost(calls: Calls, tree: &TreeWords, schedule: &[u16]) -> f64 {
     let mut trace = vec![0; schedule.len()];
     let state = (calls.run)(tree, &StateWords::fresh(), schedule, &mut trace).state;
     (0..ROUNDS).map(|_| time(|| assert_eq!((calls.check_state)(tree, opaque(&state)), (0, 0)))).fold(f64::MAX, f64::min)
 }
 
-/// Prints the table and adds the ratios; nothing where the library lacks the calls.
+/// Prints the table and adds the ratios. Prints nothing if the library lacks the calls.
 pub fn print(worst: &mut Worst) {
     let library = match library::calls() {
         Some(calls) => calls,

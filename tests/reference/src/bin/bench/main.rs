@@ -1,5 +1,5 @@
-//! What the library's calls cost against the step table's: four schedules, three trees, each with a queue root and with a ticket root.
-//! The last line is the worst ratio of the queue roots, the one before it that of the ticket roots.
+//! The cost of the library's calls compared with the step table's: four schedules and three trees, each with a queue root and with a ticket root.
+//! The last line is the worst ratio for queue roots, and the line before it the worst for ticket roots.
 
 mod bounds;
 mod calls;
@@ -35,7 +35,7 @@ fn shapes(ticket_root: bool) -> [Shape; 3] {
     SIZES.map(|(domains, threads)| Shape { domains, threads, ticket_root })
 }
 
-/// The worst ratio at each kind of root, nothing where no library was measured.
+/// The worst ratio at each kind of root, or nothing if no library was measured.
 #[derive(Default)]
 struct Worst {
     queue: Vec<f64>,
@@ -57,7 +57,7 @@ impl Worst {
     }
 }
 
-/// A binary tree; six levels of it have 63 domains, so that the last domain of a full tree has the root as its parent.
+/// A binary tree. Six levels have 63 domains, so the last domain of a full tree has the root as its parent.
 fn parent(domain: usize) -> u8 {
     match domain {
         63 => 0,
@@ -65,7 +65,7 @@ fn parent(domain: usize) -> u8 {
     }
 }
 
-/// Domains as a binary tree, threads spread over its leaves.
+/// Domains as a binary tree, with the threads spread over its leaves.
 fn draft(Shape { domains, threads, ticket_root }: Shape) -> Draft {
     let parents: Vec<u8> = (0..domains).map(parent).collect();
     let leaves: Vec<u8> = (0..domains as u8).filter(|domain| !parents[1..].contains(domain)).collect();
@@ -99,7 +99,7 @@ fn print_head(name: &str, Shape { domains, threads, ticket_root }: Shape) {
     print!("{:<18} {domains:>7} {threads:>7}", if ticket_root { format!("{name}, ticket") } else { name.to_string() });
 }
 
-/// One line of a table: of the step table and, if it was measured, the library, with the ratio of each column; returns the ratios.
+/// Prints one line of a table, for the step table and, if it was measured, the library, with the ratio of each column. Returns the ratios.
 fn print_line(name: &str, shape: Shape, costs: &[[f64; 2]]) -> Vec<f64> {
     print_head(name, shape);
     for cost in costs {

@@ -1,4 +1,4 @@
-//! Many schedules in one call: nanoseconds a step and a schedule, of long schedules and of short ones.
+//! Many schedules in one call: nanoseconds per step and per schedule, for long schedules and for short ones.
 
 use crate::{draft_with_schedule, shapes, time, Worst, ROUNDS, SCHEDULES};
 use reference::library;
@@ -8,10 +8,10 @@ use reference::random::Random;
 use reference::random_state::tree_words;
 use reference::words::TreeWords;
 
-/// How many schedules, and of how many entries each.
+/// The number of schedules, and the number of entries in each.
 const MANY: [(usize, usize); 2] = [(40, 1_600), (4_000, 16)];
 
-/// Nanoseconds of a call, the best of the rounds, in each of which every program has its turn.
+/// Nanoseconds per call, the best of the rounds. In each round every program runs once.
 fn costs(programs: &[RunMany], tree: &TreeWords, lengths: &[u32], entries: &[u16]) -> Vec<f64> {
     let mut rows = vec![0; ROW * lengths.len()];
     let mut best = vec![f64::MAX; programs.len()];
@@ -23,7 +23,7 @@ fn costs(programs: &[RunMany], tree: &TreeWords, lengths: &[u32], entries: &[u16
     best
 }
 
-/// Prints the table and adds its ratios; nothing where the library lacks the call.
+/// Prints the table and adds its ratios. Prints nothing if the library lacks the call.
 pub fn print(worst: &mut Worst) {
     let library = match library::run_many() {
         Some(library) => library,

@@ -1,4 +1,4 @@
-//! The check of steps: nanoseconds a step, of the step table's run, the library's run and the library's check of the same steps.
+//! The check of steps: nanoseconds per step, for the step table's run, the library's run and the library's check of the same steps.
 
 use crate::{draft_with_schedule, shapes, time, Worst, ROUNDS, SCHEDULES};
 use reference::calls::{Calls, TABLE};
@@ -9,7 +9,7 @@ use reference::random::Random;
 use reference::random_state::tree_words;
 use reference::words::{StateWords, TreeWords};
 
-/// Nanoseconds of a run of the table, of the library and of the library's check, the best of the rounds, in each of which all three have their turn.
+/// Nanoseconds of the table's run, the library's run and the library's check, the best of the rounds. In each round all three run once.
 fn costs(library: Calls, tree: &TreeWords, schedule: &[u16]) -> [f64; 3] {
     let (mut trace, mut rows) = (vec![0; schedule.len()], vec![0; ROW * schedule.len()]);
     let fresh = StateWords::fresh();
@@ -25,7 +25,7 @@ fn costs(library: Calls, tree: &TreeWords, schedule: &[u16]) -> [f64; 3] {
     best
 }
 
-/// Prints the table and adds the check's ratios to a run of the step table; nothing where the library lacks the calls.
+/// Prints the table and adds the ratios of the check to the step table's run. Prints nothing if the library lacks the calls.
 pub fn print(worst: &mut Worst) {
     let library = match library::calls() {
         Some(calls) => calls,

@@ -1,14 +1,14 @@
-//! Reading texts: nanoseconds a byte at three lengths, which shows that the cost grows with the bytes and no faster.
+//! Reading texts: nanoseconds per byte at three lengths, to show that the cost grows with the bytes and no faster.
 
 use crate::{time, ROUNDS};
 use reference::library::{self, ReadText};
 use reference::opaque::opaque;
 use reference::text_tree;
 
-/// Domains below the root: as many as there is room for, and far more, which is refused by 4 once all is read.
+/// Domains below the root: the largest allowed number, and far more, which 4 refuses once everything is read.
 const DOMAINS: [usize; 3] = [63, 1_000, 50_000];
 
-/// Leaves with thresholds and counts of some digits.
+/// Leaves with thresholds and counts of a few digits.
 fn text(domains: usize) -> Vec<u8> {
     let leaves: Vec<String> = (0..domains).map(|domain| format!("{}(#{})", 1 + domain * 7919 % 65_535, 1 + domain % 4)).collect();
     format!("({})", leaves.join(" ")).into_bytes()
@@ -19,7 +19,7 @@ fn cost(call: ReadText, text: &[u8]) -> f64 {
     (0..ROUNDS).map(|_| time(|| assert!(call(opaque(text)).number != 15))).fold(f64::MAX, f64::min)
 }
 
-/// Prints the table; its ratios stay out of the worst one.
+/// Prints the table. Its ratios do not count toward the worst one.
 pub fn print() {
     println!("reading a text: nanoseconds a byte, of the reference and the library");
     for domains in DOMAINS {

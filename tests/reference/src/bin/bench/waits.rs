@@ -1,4 +1,4 @@
-//! Runs with waits, from no attempt under way and going on from some: nanoseconds a step, of a long schedule and of none.
+//! Runs with waits, from no attempt under way and continued from some: nanoseconds per step, for a long schedule and for an empty one.
 
 use crate::{draft_with_schedule, shapes, time, Shape, Worst, ROUNDS, SCHEDULES};
 use reference::library;
@@ -8,7 +8,7 @@ use reference::random_state::tree_words;
 use reference::waits::{run_waits, run_waits_on, RunWaits, RunWaitsOn, ROW};
 use reference::words::{StateWords, TreeWords};
 
-/// Nanoseconds of a call, the best of the rounds, in each of which every program has its turn.
+/// Nanoseconds per call, the best of the rounds. In each round every program runs once.
 fn costs(programs: &[RunWaits], tree: &TreeWords, schedule: &[u16]) -> Vec<f64> {
     let mut rows = vec![0; ROW * (tree.threads as usize + 1)];
     let mut trace = vec![0; schedule.len()];
@@ -22,7 +22,7 @@ fn costs(programs: &[RunWaits], tree: &TreeWords, schedule: &[u16]) -> Vec<f64> 
     best
 }
 
-/// The same going on, from the state and the attempts under way after the same schedule.
+/// The same for a continued run, from the state and the attempts under way after the same schedule.
 fn costs_on(programs: &[RunWaitsOn], tree: &TreeWords, schedule: &[u16]) -> Vec<f64> {
     let mut rows = vec![0; ROW * (tree.threads as usize + 1)];
     let mut trace = vec![0; schedule.len()];
@@ -45,7 +45,7 @@ fn print_line(name: &str, shape: Shape, long: &[f64], none: &[f64], worst: &mut 
     worst.add(shape, vec![ratio]);
 }
 
-/// Prints the tables and adds the ratios of long schedules; nothing where the library lacks the calls.
+/// Prints the tables and adds the ratios of long schedules. Prints nothing if the library lacks the calls.
 pub fn print(worst: &mut Worst) {
     let (library, library_on) = match library::run_waits().zip(library::run_waits_on()) {
         Some(calls) => calls,

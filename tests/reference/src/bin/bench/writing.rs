@@ -1,4 +1,4 @@
-//! Writing lock files: nanoseconds a byte at three lengths, which shows that the cost grows with the bytes and no faster.
+//! Writing lock files: nanoseconds per byte at three lengths, to show that the cost grows with the bytes and no faster.
 
 use crate::{draft_with_schedule, shapes, time, ROUNDS, SCHEDULES};
 use reference::file_writer::{write_file, WriteFile};
@@ -18,7 +18,7 @@ fn cost(call: WriteFile, tree: &TreeWords, schedule: &[u16]) -> (f64, u32) {
     ((0..ROUNDS).map(|_| time(|| assert_eq!(call(tree, opaque(schedule), &mut buffer).number, 0))).fold(f64::MAX, f64::min), length)
 }
 
-/// Prints the table; its ratios stay out of the worst one.
+/// Prints the table. Its ratios do not count toward the worst one.
 pub fn print() {
     println!("writing a lock file: nanoseconds and nanoseconds a byte, of the reference and the library");
     for entries in ENTRIES {

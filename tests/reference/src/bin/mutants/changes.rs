@@ -1,4 +1,4 @@
-//! The small changes that a file of definitions offers: a constant, a comparison, a branch, a constructor, a field.
+//! The small changes that can be made in a file of definitions: a constant, a comparison, a branch, a constructor, a field.
 
 use crate::source::{words, Word};
 
@@ -8,7 +8,7 @@ pub struct Change {
     pub text: String,
 }
 
-/// Words of one type each: any stands for any other of its row.
+/// Each row has words of one type. Any of them may replace any other in its row.
 const ALIKE: &[&[&str]] = &[
     &["eqb", "ltb", "leb"],
     &["≤", "<"],
@@ -45,7 +45,7 @@ const ALIKE: &[&[&str]] = &[
     &[".thread", ".domain"],
 ];
 
-/// Words that are left out where they stand before an argument of the same type.
+/// Words that are removed if they come before an argument of the same type.
 const LEFT_OUT: &[&str] = &["not", "suc"];
 
 pub fn changes(text: &str) -> Vec<Change> {
@@ -71,7 +71,7 @@ pub fn changes(text: &str) -> Vec<Change> {
     found
 }
 
-/// One more, and one less.
+/// Adds one, and subtracts one.
 fn constants(number: u128, word: &Word, found: &mut Vec<Change>) {
     let mut other = |value: Option<u128>| {
         if let Some(value) = value {
@@ -82,7 +82,7 @@ fn constants(number: u128, word: &Word, found: &mut Vec<Change>) {
     other(number.checked_sub(1));
 }
 
-/// The two branches of a `cond` exchanged, and each in place of the other.
+/// Exchanges the two branches of a `cond`, and puts each in place of the other.
 fn branches(text: &str, words: &[Word], at: usize, found: &mut Vec<Change>) -> Option<()> {
     let test = argument(text, words, at)?;
     let first = argument(text, words, test.1)?;
@@ -95,7 +95,7 @@ fn branches(text: &str, words: &[Word], at: usize, found: &mut Vec<Change>) -> O
     Some(())
 }
 
-/// The argument that begins at a word, and the word after it: a word or what a pair of brackets holds, with the fields taken of it.
+/// The argument that begins at a word, and the word after it. An argument is a word or the contents of a pair of brackets, with any fields taken from it.
 fn argument(text: &str, words: &[Word], at: usize) -> Option<(Word, usize)> {
     let name = |i: usize| words.get(i).map(|w| &text[w.start..w.end]);
     let mut end = at;

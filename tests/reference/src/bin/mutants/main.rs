@@ -1,5 +1,5 @@
-//! Small random changes of a crate's definitions, one at a time, in a copy of the repository: a change with which the crate is still proved is printed.
-//! mutants COPY CRATE N SEED, run by tests/mutants.
+//! Makes small random changes in a crate's definitions, one at a time, in a copy of the repository. Prints each change with which the crate is still proved.
+//! Usage: mutants COPY CRATE N SEED, run by tests/mutants.
 
 mod changes;
 mod source;
@@ -20,7 +20,7 @@ struct Mutant {
 enum Verdict {
     Passed,
     Refused,
-    /// It is no definition: a name that is not in scope there, or another type.
+    /// It does not compile: a name is not in scope, or a type is wrong.
     Unread,
     Undecided,
 }
@@ -65,7 +65,7 @@ fn main() {
     );
 }
 
-/// What has been checked of the crate, so that only what a change reaches is checked again.
+/// What has already been checked in the crate, so only what a change affects is checked again.
 fn checked(copy: &Path, name: &str) -> PathBuf {
     copy.join("target/inc").join(name)
 }
@@ -76,7 +76,7 @@ fn copied(from: &Path, to: &Path) {
     assert!(done.success(), "{} is copied", from.display());
 }
 
-/// Of every file but those of computed cases: another input of a case is no other definition.
+/// Every file except those of computed cases: a case with a different input is not a different definition.
 fn all(folder: &Path) -> Vec<Mutant> {
     let mut files: Vec<PathBuf> = fs::read_dir(folder).expect("the crate has specs/").map(|entry| entry.expect("an entry").path()).collect();
     files.retain(|file| !file.to_string_lossy().ends_with("Cases.antt"));
@@ -110,7 +110,7 @@ fn tried(copy: &Path, name: &str, mutant: &Mutant, text: &str) -> Verdict {
     }
 }
 
-/// The file, the line, what stood there and what stands there now.
+/// The file, the line, the old text and the new text.
 fn shown(copy: &Path, mutant: &Mutant, text: &str) -> String {
     let change = &mutant.change;
     let file = mutant.file.strip_prefix(copy).unwrap_or(&mutant.file);

@@ -1,13 +1,13 @@
-//! The parts of a file of definitions that are changed, as words: right sides of definitions and the fields of records.
+//! The parts of a file of definitions that are changed, as words: the right sides of definitions and the fields of records.
 
-/// A word or a single bracket, comma or semicolon: where it stands in the file, in bytes.
+/// A word or a single bracket, comma or semicolon: its position in the file, in bytes.
 #[derive(Clone, Copy)]
 pub struct Word {
     pub start: usize,
     pub end: usize,
 }
 
-/// What a line that is not indented begins.
+/// What an unindented line begins.
 #[derive(Clone, Copy, PartialEq)]
 enum Item {
     LeftAlone,
@@ -50,7 +50,7 @@ fn begun(code: &str) -> Item {
     }
 }
 
-/// From where on a line is changed: after the equals sign of a definition or the colon of a field.
+/// The position from which a line is changed: after the equals sign of a definition or the colon of a field.
 fn changed_from(item: Item, indented: bool, code: &str) -> Option<usize> {
     match item {
         Item::LeftAlone => None,

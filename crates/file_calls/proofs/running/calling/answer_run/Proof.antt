@@ -1,4 +1,4 @@
--- `file_calls::running::calling::answer_run` meets its contract: the run's refusal, or the listing, whose length is 0 exactly where it does not fit.
+-- `file_calls::running::calling::answer_run` meets its contract: the run's refusal, or the listing, whose length is 0 exactly if it does not fit.
 use mathlib.Core.Path.{_≡_, sym, _∙_}
 use Prim.Native.Nat.{_≤_}
 use native.Mathlib.Omega.{arith}

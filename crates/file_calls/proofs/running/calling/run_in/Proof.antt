@@ -1,4 +1,4 @@
--- `file_calls::running::calling::run_in` meets its contract: the schedule stands at the front of its buffer and the trace at the front of its own, so the run is that of the file's entries on a fresh lock.
+-- `file_calls::running::calling::run_in` meets its contract: schedule and trace are at the front of their buffers, so the run is that of the file's entries on a fresh lock.
 use mathlib.Core.Path.{sym, _∙_, ap}
 use Prim.Native.Nat.{_-_, _/_, _≤_}
 use native.Mathlib.Omega.{arith}

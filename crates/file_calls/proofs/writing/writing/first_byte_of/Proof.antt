@@ -1,4 +1,4 @@
--- `file_calls::writing::writing::first_byte_of` meets its contract: at most 64 domains, and 128 more, fit a byte.
+-- `file_calls::writing::writing::first_byte_of` meets its contract: at most 64 domains, plus 128, fit in a byte.
 use native.Mathlib.Omega.{arith}
 use borrow.Author.Tests.{eq-eqb, ne-eqb}
 use Rattle.model.specs.Trees.{tree-of}

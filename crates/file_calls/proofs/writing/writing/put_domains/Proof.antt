@@ -1,4 +1,4 @@
--- `file_calls::writing::writing::put_domains` meets its contract: what is left to write gives what the whole gives.
+-- `file_calls::writing::writing::put_domains` meets its contract: at each turn of the loop, what remains to write gives the result of the whole.
 use mathlib.Core.Path.{_≡_, refl, sym, ap, _∙_}
 use mathlib.Core.List.{[]}
 use Prim.Native.Nat.{_+_, _-_, _≤_, _<_}

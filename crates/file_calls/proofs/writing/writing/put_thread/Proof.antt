@@ -1,4 +1,4 @@
--- `file_calls::writing::writing::put_thread` meets its contract: by its test one byte is stored or two, which are the entry's.
+-- `file_calls::writing::writing::put_thread` meets its contract: by its test, the one or two bytes of the entry are stored.
 use mathlib.Core.Path.{ap}
 use native.Mathlib.Omega.{arith}
 use native.Mathlib.Numerals.{add-one}

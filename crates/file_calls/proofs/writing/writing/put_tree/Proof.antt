@@ -1,4 +1,4 @@
--- `file_calls::writing::writing::put_tree` meets its contract: its four parts one after another.
+-- `file_calls::writing::writing::put_tree` meets its contract: its four parts in order.
 use mathlib.Core.Path.{ap, _∙_}
 use native.Mathlib.Omega.{arith}
 use lib.ListN.{length, length-set}

@@ -1,4 +1,4 @@
--- `file_calls::writing::writing::put_two_bytes` meets its contract: remainder and quotient by 256 fit a byte each, and are stored one after another.
+-- `file_calls::writing::writing::put_two_bytes` meets its contract: remainder and quotient by 256 fit in a byte each, and are stored in order.
 use native.Mathlib.Omega.{arith}
 use native.Mathlib.Numerals.{add-one}
 use lib.ListN.{length-set}

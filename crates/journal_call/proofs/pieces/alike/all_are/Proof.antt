@@ -1,4 +1,4 @@
--- `journal_call::pieces::alike::all_are` meets its contract: two words are one, so their bytes are.
+-- `journal_call::pieces::alike::all_are` meets its contract: two words are equal, so their bytes are.
 use mathlib.Core.Path.{_≡_}
 use Prim.Native.Nat.{_+_, _*_}
 use native.Mathlib.Omega.{arith}

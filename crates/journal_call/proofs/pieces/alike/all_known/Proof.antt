@@ -1,4 +1,4 @@
--- `journal_call::pieces::alike::all_known` meets its contract: true is returned only where each of the four is below.
+-- `journal_call::pieces::alike::all_known` meets its contract: it returns true only if each of the four is below.
 use mathlib.Core.Bool.{false≢true}
 use borrow.Author.Needs.{needs}
 use Rattle.journal_call.proofs.pieces.alike.all_known.Statement.{statement}

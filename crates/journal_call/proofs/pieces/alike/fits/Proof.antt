@@ -1,4 +1,4 @@
--- `journal_call::pieces::alike::fits` meets its contract: true is returned after all six tests alone, and they bound the room.
+-- `journal_call::pieces::alike::fits` meets its contract: it returns true only after all six tests, which bound the lengths.
 use mathlib.Core.Bool.{false≢true}
 use Prim.Native.Nat.{_-_}
 use native.Mathlib.Omega.{arith}

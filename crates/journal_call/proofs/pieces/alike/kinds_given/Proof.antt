@@ -1,4 +1,4 @@
--- `journal_call::pieces::alike::kinds_given` meets its contract: it goes on only after the bit map that gives a kind alone.
+-- `journal_call::pieces::alike::kinds_given` meets its contract: it continues only after a bit map for a kind only.
 use mathlib.Core.Path.{_≡_}
 use mathlib.Core.Bool.{false≢true}
 use mathlib.Core.List.{List}

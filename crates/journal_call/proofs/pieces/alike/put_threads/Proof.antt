@@ -1,4 +1,4 @@
--- `journal_call::pieces::alike::put_threads` meets its contract: four stores one after another.
+-- `journal_call::pieces::alike::put_threads` meets its contract: four stores in order.
 use native.Mathlib.Omega.{arith}
 use lib.ListN.{length-set}
 use mathlib.Core.List.{[], _∷_}

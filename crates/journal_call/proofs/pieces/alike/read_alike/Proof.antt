@@ -1,4 +1,4 @@
--- `journal_call::pieces::alike::read_alike` meets its contract: sixteen entries, or what four are read as.
+-- `journal_call::pieces::alike::read_alike` meets its contract: sixteen entries, or the result for four.
 use native.Mathlib.Omega.{arith}
 use Rattle.journal_call.proofs.reader.Stretching.{again}
 use borrow.Author.Needs.{needs}

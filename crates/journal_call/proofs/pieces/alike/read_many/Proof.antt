@@ -1,4 +1,4 @@
--- `journal_call::pieces::alike::read_many` meets its contract: sixteen are read where they fit, else nothing.
+-- `journal_call::pieces::alike::read_many` meets its contract: sixteen are read if they fit, otherwise none.
 use native.Mathlib.Omega.{arith}
 use Rattle.journal_call.proofs.reader.Stretching.{nothing}
 use borrow.Author.Needs.{needs}

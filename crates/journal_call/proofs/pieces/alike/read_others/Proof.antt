@@ -22,7 +22,7 @@ add-stopped-2 c =
     let begin : tie.Start = search after-shared-slice-known in
     search (needs, begin .pre .bytes-left)
 
--- where the function starts
+-- the start of the function
 abbrev start-of : tie.After-all-are → tie.Start
 start-of c = search c
 

@@ -6,7 +6,7 @@ use borrow.Author.Needs.{needs}
 use Rattle.journal_call.proofs.pieces.alike.read_same.Statement.{statement}
 use Rattle.journal_call.proofs.pieces.alike.read_same.Tie as tie
 
--- where the function starts, from each comparison
+-- earlier points of the code: the start, and after the first comparison
 abbrev start-of : tie.After-all-are → tie.Start
 start-of c = search c
 

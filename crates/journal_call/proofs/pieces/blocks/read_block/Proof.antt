@@ -1,4 +1,4 @@
--- `journal_call::pieces::blocks::read_block` meets its contract: each entry is whole, since no entry has more than four bytes, and its size is in the table.
+-- `journal_call::pieces::blocks::read_block` meets its contract: each entry is complete, since no entry has more than four bytes, and its size is in the table.
 use mathlib.Core.Path.{_≡_, refl, sym, ap, _∙_}
 use Prim.Native.Nat.{_+_, _*_, _-_, _≤_, _<_}
 use native.Mathlib.Omega.{arith}

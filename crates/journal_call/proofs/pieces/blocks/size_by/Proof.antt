@@ -1,4 +1,4 @@
--- `journal_call::pieces::blocks::size_by` meets its contract: a bit map's half is 0 or 1.
+-- `journal_call::pieces::blocks::size_by` meets its contract: half of a bit map is 0 or 1.
 use native.Mathlib.Omega.{arith}
 use borrow.Author.Needs.{needs}
 use Rattle.journal_call.proofs.pieces.blocks.size_by.Statement.{statement}

@@ -1,4 +1,4 @@
--- `journal_call::pieces::blocks::sizes_from` meets its contract: the sizes of the bytes passed are in the table.
+-- `journal_call::pieces::blocks::sizes_from` meets its contract: the sizes for the bytes so far are in the table.
 use mathlib.Core.Path.{_≡_, refl}
 use Prim.Native.Nat.{_-_, _≤_}
 use native.Mathlib.Omega.{arith}

@@ -1,4 +1,4 @@
--- `journal_call::step_check::pieces::check_all` meets its contract: piece after piece, up to the first that has a wrong step, or the last.
+-- `journal_call::step_check::pieces::check_all` meets its contract: piece by piece, up to the first that has a wrong step, or the last.
 use mathlib.Core.Path.{_≡_, refl, sym, ap, _∙_}
 use Prim.Native.Nat.{_+_, _-_}
 use native.Mathlib.Omega.{arith}
@@ -197,7 +197,7 @@ check-all-spec =
     same-length
     same-length-2
     returns
-    (λ c. search needs)
+    (λ c. omega arith)
     loop-again
     mul-check-piece-4
     (λ c. search needs)

@@ -1,4 +1,4 @@
--- `journal_call::step_check::pieces::check_piece` meets its contract: what can be stepped is stepped and compared; where one step is wrong, those before it are taken again.
+-- `journal_call::step_check::pieces::check_piece` meets its contract: what can be stepped is stepped and compared; if one step is wrong, those before it are taken again.
 use mathlib.Core.Path.{ap, _∙_}
 use native.Mathlib.Omega.{arith}
 use lib.ListN.{length}
@@ -8,7 +8,7 @@ use borrow.Author.Needs.{needs}
 use Rattle.journal_call.proofs.step_check.pieces.check_piece.Statement.{statement}
 use Rattle.journal_call.proofs.step_check.pieces.check_piece.Tie as tie
 
--- the start, the stretch that can be stepped, and where it was stepped and compared
+-- earlier points of the code: the start, after the stretch is known, and after its steps
 abbrev first : tie.After-stretch-of → tie.Start
 first stretch = search stretch
 

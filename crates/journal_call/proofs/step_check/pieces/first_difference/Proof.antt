@@ -1,4 +1,4 @@
--- `journal_call::step_check::pieces::first_difference` meets its contract: all named steps passed have the kinds and domains that were told.
+-- `journal_call::step_check::pieces::first_difference` meets its contract: all named steps so far have the reported kinds and domains.
 use mathlib.Core.Path.{_≡_}
 use mathlib.Core.Bool.{false}
 use Prim.Native.Nat.{ℕ, _≤_, _<_, _-_}

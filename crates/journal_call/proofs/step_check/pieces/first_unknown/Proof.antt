@@ -1,4 +1,4 @@
--- `journal_call::step_check::pieces::first_unknown` meets its contract: all threads passed are of the tree.
+-- `journal_call::step_check::pieces::first_unknown` meets its contract: all threads so far are in the tree.
 use mathlib.Core.Path.{_≡_}
 use mathlib.Core.Bool.{false}
 use Prim.Native.Nat.{ℕ, _≤_, _<_, _-_}

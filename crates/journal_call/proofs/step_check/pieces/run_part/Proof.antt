@@ -1,4 +1,4 @@
--- `journal_call::step_check::pieces::run_part` meets its contract: the threads are the first of those lent.
+-- `journal_call::step_check::pieces::run_part` meets its contract: the threads are the first of the borrowed ones.
 use mathlib.Core.Path.{_≡_, ap, _∙_}
 use Prim.Native.Nat.{_-_}
 use native.Mathlib.Omega.{arith}
@@ -23,7 +23,7 @@ run-lent-requires c κs =
     let whole : a .count - 0 ≡ a .count = omega arith in
     (begin .pre .1 .0, ap (λ n. first-refusal (run-tests-before-19 (tree-of (a .tree)) s (take n (a .threads .now)) (length (a .trace .now))) .number) whole ∙ begin .pre .1 .1)
 
--- when the steps have been taken, and where the function starts
+-- earlier points of the code: after the steps, before them, and the start
 abbrev ran-of : tie.After-slice-known4 → tie.After-run-lent
 ran-of c = search c
 

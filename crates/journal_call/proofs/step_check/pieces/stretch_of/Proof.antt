@@ -1,4 +1,4 @@
--- `journal_call::step_check::pieces::stretch_of` meets its contract: 19 stops, or a thread that is unknown, or nothing.
+-- `journal_call::step_check::pieces::stretch_of` meets its contract: 19 stops it, or an unknown thread, or nothing.
 use Rattle.journal_call.proofs.step_check.Stretching.{early, counter-stops, thread-stops, nothing-stops}
 use borrow.Author.Needs.{needs}
 use Rattle.journal_call.proofs.step_check.pieces.stretch_of.Statement.{statement}

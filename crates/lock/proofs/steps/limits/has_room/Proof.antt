@@ -1,4 +1,4 @@
--- `lock::steps::limits::has_room` meets its contract: no counter passed is more than the OR of all of them.
+-- `lock::steps::limits::has_room` meets its contract: no counter so far is above the OR of all of them.
 use native.Mathlib.Omega.{arith}
 use borrow.Author.Tests.{leb-true}
 use Prim.Native.Nat.{ℕ, _≤_, _<_, _-_}

@@ -1,4 +1,4 @@
--- `lock::steps::limits::is_above` meets its contract: none of the counters passed is above.
+-- `lock::steps::limits::is_above` meets its contract: none of the counters so far is above 2^63.
 use mathlib.Core.Path.{_≡_, sym}
 use mathlib.Core.Bool.{false}
 use native.Mathlib.Omega.{arith}

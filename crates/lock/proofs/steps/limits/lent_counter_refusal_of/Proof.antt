@@ -1,4 +1,4 @@
--- `lock::steps::limits::lent_counter_refusal_of` meets its contract: every schedule has room, or the lowest position is looked for.
+-- `lock::steps::limits::lent_counter_refusal_of` meets its contract: no schedule can reach the limit, or the lowest position is searched.
 use Rattle.lock.proofs.steps.CounterLimits.{has-room, is-above, is-none}
 use borrow.Author.Needs.{needs}
 use Rattle.lock.proofs.steps.limits.lent_counter_refusal_of.Statement.{statement}

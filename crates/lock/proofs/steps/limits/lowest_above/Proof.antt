@@ -1,4 +1,4 @@
--- `lock::steps::limits::lowest_above` meets its contract: the entries tried so far left no counter above.
+-- `lock::steps::limits::lowest_above` meets its contract: the entries tried so far left no counter above 2^63.
 use mathlib.Core.Path.{sym, _∙_}
 use Prim.Native.Nat.{_-_}
 use native.Mathlib.Omega.{arith}

@@ -1,4 +1,4 @@
--- `lock::steps::run::domain_of_code`. Both rows without a domain are compared in turn.
+-- `lock::steps::run::domain_of_code` meets its contract: both rows without a domain are compared in turn.
 use borrow.Author.Tests.{eq-eqb, ne-eqb}
 use borrow.Author.Needs.{needs}
 use Rattle.lock.proofs.steps.run.domain_of_code.Statement.{statement}

@@ -1,4 +1,4 @@
--- `lock::steps::run::is_entry`. Each kind of entry is compared in turn.
+-- `lock::steps::run::is_entry` meets its contract: each kind of entry is compared in turn.
 use borrow.Author.Tests.{eq-eqb, ne-eqb}
 use Rattle.lock.proofs.steps.run.is_entry.Statement.{statement}
 use Rattle.lock.proofs.steps.run.is_entry.Tie as tie

@@ -1,4 +1,4 @@
--- `lock::steps::run::put_code`. A step is told where there is room.
+-- `lock::steps::run::put_code` meets its contract: the step is reported if the buffer is long enough.
 use borrow.Author.Needs.{needs}
 use borrow.Author.Tests.{lt-ltb, le-ltb}
 use Rattle.lock.proofs.steps.run.put_code.Statement.{statement}

@@ -1,4 +1,4 @@
--- `lock::steps::run::run_lent` takes the steps of a schedule: the entries done so far have given the state, the trace, how many steps are of each kind and the counters of the domains.
+-- `lock::steps::run::run_lent` meets its contract: the entries so far have given the state, the trace, how many steps are of each kind and the counters of the domains.
 use mathlib.Core.Path.{refl, sym, _∙_}
 use Prim.Native.Nat.{_+_, _-_, _≤_}
 use native.Mathlib.Omega.{arith}

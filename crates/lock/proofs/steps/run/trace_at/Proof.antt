@@ -1,4 +1,4 @@
--- `lock::steps::run::trace_at`. An entry is written and counted, anything else is not.
+-- `lock::steps::run::trace_at` meets its contract: an entry is written and counted, any other step is not.
 use mathlib.Core.Path.{sym, _∙_}
 use native.Mathlib.Nat.{add-zero}
 use borrow.Author.Needs.{needs}

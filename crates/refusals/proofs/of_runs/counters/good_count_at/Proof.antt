@@ -1,4 +1,4 @@
--- `refusals::of_runs::counters::good_count_at` meets its contract: zeros at the root and in unused room, else each counter by its own bound.
+-- `refusals::of_runs::counters::good_count_at` meets its contract: zeros for the root and in unused slots, else each counter by its own bound.
 use mathlib.Core.Path.{_∙_}
 use borrow.Author.Tests.{eq-eqb, ne-eqb, lt-ltb, le-ltb, lt-leb, le-leb}
 use borrow.Author.Needs.{needs}

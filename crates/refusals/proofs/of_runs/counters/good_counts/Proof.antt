@@ -1,4 +1,4 @@
--- `refusals::of_runs::counters::good_counts` meets its contract: the counters of all domains passed are good.
+-- `refusals::of_runs::counters::good_counts` meets its contract: the counters of all domains so far are good.
 use mathlib.Core.Path.{_≡_, sym}
 use mathlib.Core.Bool.{true, false}
 use mathlib.Core.List.{[]}

@@ -1,4 +1,4 @@
--- `refusals::of_runs::counters::zeros_at` meets its contract: each return by the tests of the counters before it.
+-- `refusals::of_runs::counters::zeros_at` meets its contract: each return follows from the tests of the counters before it.
 use borrow.Author.Tests.{eq-eqb, ne-eqb}
 use Rattle.refusals.proofs.of_runs.counters.zeros_at.Statement.{statement}
 use Rattle.refusals.proofs.of_runs.counters.zeros_at.Tie as tie

@@ -1,4 +1,4 @@
--- `refusals::of_runs::owners::owners_of` meets its contract: the parents of the domains passed are in the table.
+-- `refusals::of_runs::owners::owners_of` meets its contract: the parents of the domains so far are in the table.
 use Prim.Native.Nat.{_≤_, _<_, _-_}
 use native.Mathlib.Omega.{arith}
 use Rattle.refusals.proofs.of_runs.Owning.{Domain-owners, domains-first, domains-next, domains-all}

@@ -1,4 +1,4 @@
--- `refusals::of_runs::owners::thread_owners` meets its contract: the homes of the threads passed are in the table.
+-- `refusals::of_runs::owners::thread_owners` meets its contract: the homes of the threads so far are in the table.
 use Prim.Native.Nat.{_≤_, _-_}
 use native.Mathlib.Omega.{arith}
 use Rattle.refusals.specs.OfRuns.Tables.{Thread-owners}

@@ -1,4 +1,4 @@
--- `refusals::of_runs::shapes::has_domain` meets its contract: by the table, the rows up to Grant have a domain but for Idle and Inside.
+-- `refusals::of_runs::shapes::has_domain` meets its contract: by the table, the rows up to Grant have a domain, except Idle and Inside.
 use borrow.Author.Tests.{eq-eqb, ne-eqb}
 use Rattle.refusals.proofs.of_runs.RowShapes.{domain-rows}
 use Rattle.refusals.proofs.of_runs.shapes.has_domain.Statement.{statement}

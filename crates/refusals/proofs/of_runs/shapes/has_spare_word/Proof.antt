@@ -1,4 +1,4 @@
--- `refusals::of_runs::shapes::has_spare_word` meets its contract: a word that is not 0, and then the row's own.
+-- `refusals::of_runs::shapes::has_spare_word` meets its contract: the word is tested for 0, then the row is tested.
 use borrow.Author.Needs.{needs}
 use borrow.Author.Tests.{eq-eqb, ne-eqb}
 use Rattle.refusals.proofs.of_runs.shapes.has_spare_word.Statement.{statement}

@@ -1,4 +1,4 @@
--- `refusals::of_runs::shapes::has_word` meets its contract: by the table, Grant alone has a word.
+-- `refusals::of_runs::shapes::has_word` meets its contract: by the table, only Grant has a word.
 use Rattle.refusals.proofs.of_runs.RowShapes.{word-rows}
 use Rattle.refusals.proofs.of_runs.shapes.has_word.Statement.{statement}
 use Rattle.refusals.proofs.of_runs.shapes.has_word.Tie as tie

@@ -1,4 +1,4 @@
--- `refusals::of_runs::states::good_domain_at` meets its contract: barred, not on the path, or the record decides.
+-- `refusals::of_runs::states::good_domain_at` meets its contract: not allowed, not on the path, or the record decides.
 use mathlib.Core.Bool.{true, false}
 use borrow.Author.Tests.{not-true, not-false}
 use Rattle.refusals.proofs.Scanning.{by-answer}

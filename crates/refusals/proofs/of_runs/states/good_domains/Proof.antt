@@ -1,4 +1,4 @@
--- `refusals::of_runs::states::good_domains` meets its contract: the words of all domains passed are good.
+-- `refusals::of_runs::states::good_domains` meets its contract: the words of all domains so far are good.
 use mathlib.Core.Path.{_≡_, sym}
 use mathlib.Core.Bool.{true, false}
 use Prim.Native.Nat.{ℕ, _+_, _≤_, _<_, _-_}

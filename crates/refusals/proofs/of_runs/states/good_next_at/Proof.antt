@@ -1,4 +1,4 @@
--- `refusals::of_runs::states::good_next_at` meets its contract: 0 is none; any other is one more than a number, false from 320 on, and below it the owner at that index decides.
+-- `refusals::of_runs::states::good_next_at` meets its contract: 0 is none; any other next is one more than a number, false from 320 on; below 320 the owner at that index decides.
 use Prim.Native.Nat.{_-_}
 use native.Mathlib.Omega.{arith}
 use borrow.Author.Tests.{eq-eqb, ne-eqb, lt-ltb, le-ltb}

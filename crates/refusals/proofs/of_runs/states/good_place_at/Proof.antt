@@ -1,4 +1,4 @@
--- `refusals::of_runs::states::good_place_at` meets its contract: each return by its own tests: a row of a ticket root, a spare word, a row without a domain, or one with.
+-- `refusals::of_runs::states::good_place_at` meets its contract: each return follows from its tests: a row of a ticket root, a spare word, a row without a domain, or one with a domain.
 use mathlib.Core.Bool.{true, false}
 use borrow.Author.Tests.{eq-eqb, ne-eqb, lt-ltb, le-ltb}
 use Rattle.refusals.specs.OfRuns.Tables.{place-in}

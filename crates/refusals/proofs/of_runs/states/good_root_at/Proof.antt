@@ -1,4 +1,4 @@
--- `refusals::of_runs::states::good_root_at` meets its contract: the kind of root decides which of its words are to be 0.
+-- `refusals::of_runs::states::good_root_at` meets its contract: the kind of root decides which of its words must be 0.
 use borrow.Author.Tests.{eq-eqb, ne-eqb}
 use Rattle.refusals.proofs.of_runs.states.good_root_at.Statement.{statement}
 use Rattle.refusals.proofs.of_runs.states.good_root_at.Tie as tie

@@ -1,4 +1,4 @@
--- `refusals::of_runs::states::good_thread_at` meets its contract: the next's test; then a place that rests passes every test, and any other is tested.
+-- `refusals::of_runs::states::good_thread_at` meets its contract: the next is tested; then a place that rests passes every test, and any other is tested.
 use mathlib.Core.Bool.{true, false}
 use borrow.Author.Tests.{not-true, not-false}
 use Rattle.refusals.specs.Arrays.{parents-in}

@@ -1,4 +1,4 @@
--- `refusals::of_runs::states::good_threads` meets its contract: all threads passed have good records and places.
+-- `refusals::of_runs::states::good_threads` meets its contract: all threads so far have good records and places.
 use mathlib.Core.Path.{_≡_, sym}
 use mathlib.Core.Bool.{true, false}
 use Prim.Native.Nat.{ℕ, _≤_, _<_, _-_}

@@ -1,4 +1,4 @@
--- `refusals::of_runs::states::good_ticket_place_at` meets its contract: each return by the tests before it; in Watch the status at the root's record decides.
+-- `refusals::of_runs::states::good_ticket_place_at` meets its contract: each return follows from the tests before it; in Watch the status of the record at the root decides.
 use borrow.Author.Tests.{eq-eqb, ne-eqb, lt-ltb, le-ltb}
 use Rattle.refusals.specs.OfRuns.Tables.{ticket-place-in}
 use borrow.Author.Needs.{needs}

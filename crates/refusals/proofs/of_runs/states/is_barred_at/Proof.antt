@@ -1,4 +1,4 @@
--- `refusals::of_runs::states::is_barred_at` meets its contract: below the root never; at it the row decides, then the kind of root.
+-- `refusals::of_runs::states::is_barred_at` meets its contract: below the root never; at the root the row decides, then the kind of root.
 use borrow.Author.Tests.{eq-eqb, ne-eqb}
 use Rattle.refusals.proofs.of_runs.states.is_barred_at.Statement.{statement}
 use Rattle.refusals.proofs.of_runs.states.is_barred_at.Tie as tie

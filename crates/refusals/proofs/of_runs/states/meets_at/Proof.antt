@@ -1,4 +1,4 @@
--- `refusals::of_runs::states::meets_at` meets its contract: the fuel left and the domain reached give the same answer as the whole way.
+-- `refusals::of_runs::states::meets_at` meets its contract: the remaining fuel and the domain reached give the same answer as the whole search.
 use mathlib.Core.Path.{_≡_, refl, sym, _∙_}
 use Prim.Native.Nat.{_≤_, _<_}
 use native.Mathlib.Omega.{arith}

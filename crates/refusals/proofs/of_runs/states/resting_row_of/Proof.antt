@@ -1,4 +1,4 @@
--- `refusals::of_runs::states::resting_row_of` meets its contract: Idle only where a ticket root is the only domain, by its two tests.
+-- `refusals::of_runs::states::resting_row_of` meets its contract: Idle only if a ticket root is the only domain, by its two tests.
 use borrow.Author.Tests.{eq-eqb, ne-eqb}
 use Rattle.refusals.proofs.of_runs.states.resting_row_of.Statement.{statement}
 use Rattle.refusals.proofs.of_runs.states.resting_row_of.Tie as tie

@@ -1,4 +1,4 @@
--- `refusals::of_runs::states::rests_at` meets its contract: each return by the tests before it.
+-- `refusals::of_runs::states::rests_at` meets its contract: each return follows from the tests before it.
 use borrow.Author.Tests.{eq-eqb, ne-eqb}
 use Rattle.refusals.proofs.of_runs.states.rests_at.Statement.{statement}
 use Rattle.refusals.proofs.of_runs.states.rests_at.Tie as tie

@@ -1,4 +1,4 @@
--- `refusals::of_runs::unused::any_half` meets its contract: the numbers passed are all 0 exactly if their OR is.
+-- `refusals::of_runs::unused::any_half` meets its contract: the numbers so far are all 0 exactly if their OR is.
 use mathlib.Core.Path.{_≡_}
 use Prim.Native.Nat.{_≤_, _-_}
 use native.Mathlib.Omega.{arith}

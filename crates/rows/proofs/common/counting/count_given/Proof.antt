@@ -1,4 +1,4 @@
--- `rows::common::counting::count_given` starts a tenure of a domain whose record it is.
+-- `rows::common::counting::count_given` meets its contract: it starts a tenure of the domain that owns the record.
 use borrow.Author.Needs.{needs}
 use Rattle.rows.proofs.common.counting.count_given.Statement.{statement}
 use Rattle.rows.proofs.common.counting.count_given.Tie as tie

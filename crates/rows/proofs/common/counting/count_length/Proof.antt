@@ -1,4 +1,4 @@
--- `rows::common::counting::count_length` meets its contract: the larger of the two stands.
+-- `rows::common::counting::count_length` meets its contract: the larger of the two numbers is stored.
 use mathlib.Core.Path.{sym}
 use borrow.Author.Tests.{eq-eqb, ne-eqb}
 use Rattle.rows.proofs.common.Counts.{larger-kept, larger-taken}

@@ -1,4 +1,4 @@
--- `rows::common::counting::count_shown` meets its contract: the domains passed are counted where they are marked.
+-- `rows::common::counting::count_shown` meets its contract: the domains so far are counted where they are marked.
 use mathlib.Core.Path.{_≡_, refl}
 use native.Mathlib.Omega.{arith}
 use Prim.Native.Nat.{ℕ, _≤_, _-_}

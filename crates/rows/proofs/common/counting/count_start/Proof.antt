@@ -1,4 +1,4 @@
--- `rows::common::counting::count_start` meets its contract: of domain 0 nothing is stored, of any other one more, which fits.
+-- `rows::common::counting::count_start` meets its contract: nothing is stored for domain 0, one more for any other, which fits.
 use native.Mathlib.Omega.{arith}
 use borrow.Author.Tests.{eq-eqb, ne-eqb}
 use borrow.Author.Needs.{needs}

@@ -1,4 +1,4 @@
--- `rows::common::counting::holds_ticket` meets its contract: no record of a domain that was passed holds the ticket.
+-- `rows::common::counting::holds_ticket` meets its contract: no record of the domains so far has the ticket.
 use mathlib.Core.Path.{sym}
 use mathlib.Core.Bool.{false≢true}
 use mathlib.Core.Logic.{_≢_}

@@ -1,4 +1,4 @@
--- `rows::common::counting::is_watch_at` meets its contract: each return by the tests before it, of row, domain, record and word.
+-- `rows::common::counting::is_watch_at` meets its contract: each return follows from the tests of row, domain, record and word before it.
 use borrow.Author.Tests.{eq-eqb, ne-eqb}
 use Rattle.rows.proofs.common.counting.is_watch_at.Statement.{statement}
 use Rattle.rows.proofs.common.counting.is_watch_at.Tie as tie

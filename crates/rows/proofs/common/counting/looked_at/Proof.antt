@@ -1,4 +1,4 @@
--- `rows::common::counting::looked_at` meets its contract: nobody for a step that is no raise; for a raise all, or nobody where `holds_ticket` finds no record with the ticket.
+-- `rows::common::counting::looked_at` meets its contract: none for a step that is not a raise; for a raise all, or none if `holds_ticket` finds no record with the ticket.
 use mathlib.Core.Path.{refl}
 use borrow.Author.Needs.{needs}
 use Rattle.rows.proofs.common.counting.looked_at.Statement.{statement}

@@ -1,4 +1,4 @@
--- `rows::common::counting::mark_shown` meets its contract: one store where the thread watches and the record holds the ticket, else none, each return by its own test.
+-- `rows::common::counting::mark_shown` meets its contract: one store if the thread watches and the record has the ticket, otherwise none.
 use borrow.Author.Tests.{not-true, not-false}
 use Rattle.refusals.proofs.Scanning.{by-answer}
 use Rattle.rows.proofs.common.Counts.{not-marked, is-marked}

@@ -1,4 +1,4 @@
--- `rows::common::counting::record_domain` meets its contract: a thread's number is below 256, a domain's less 256 is below 64.
+-- `rows::common::counting::record_domain` meets its contract: a thread's record is below 256; a domain's record minus 256 is below 64.
 use native.Mathlib.Omega.{arith}
 use borrow.Author.Tests.{lt-ltb, le-ltb}
 use borrow.Author.Needs.{needs}

@@ -1,4 +1,4 @@
--- `rows::common::counting::taken_at` meets its contract: at home none, else what the search finds.
+-- `rows::common::counting::taken_at` meets its contract: 0 at home, else the result of the search.
 use mathlib.Core.Path.{ap, _∙_}
 use native.Mathlib.Omega.{arith}
 use borrow.Author.Tests.{eq-eqb, ne-eqb}

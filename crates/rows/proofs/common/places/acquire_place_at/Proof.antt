@@ -1,4 +1,4 @@
--- `rows::common::places::acquire_place_at` meets its contract: Prep below the root; at it the kind of root decides, Prep or Draw.
+-- `rows::common::places::acquire_place_at` meets its contract: Prep below the root; at the root Prep or Draw, by its kind.
 use borrow.Author.Tests.{eq-eqb, ne-eqb}
 use Rattle.rows.proofs.common.places.acquire_place_at.Statement.{statement}
 use Rattle.rows.proofs.common.places.acquire_place_at.Tie as tie

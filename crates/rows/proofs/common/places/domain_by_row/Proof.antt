@@ -1,4 +1,4 @@
--- `rows::common::places::domain_by_row` is the domain of a place by its row.
+-- `rows::common::places::domain_by_row` meets its contract: the domain of a place, by its row.
 use borrow.Author.Tests.{eq-eqb, ne-eqb}
 use Rattle.rows.proofs.common.places.domain_by_row.Statement.{statement}
 use Rattle.rows.proofs.common.places.domain_by_row.Tie as tie

@@ -1,4 +1,4 @@
--- `rows::common::places::release_place_at` meets its contract: Check below the root; at it the kind of root decides, Help or Raise.
+-- `rows::common::places::release_place_at` meets its contract: Check below the root; at the root Help or Raise, by its kind.
 use borrow.Author.Tests.{eq-eqb, ne-eqb}
 use Rattle.rows.proofs.common.places.release_place_at.Statement.{statement}
 use Rattle.rows.proofs.common.places.release_place_at.Tie as tie

@@ -1,4 +1,4 @@
--- `rows::common::rows::moves` says the kind and the numbers of a place.
+-- `rows::common::rows::moves` meets its contract: the kind and the numbers of a place.
 use borrow.Author.Needs.{needs}
 use Rattle.rows.proofs.common.rows.moves.Statement.{statement}
 use Rattle.rows.proofs.common.rows.moves.Tie as tie

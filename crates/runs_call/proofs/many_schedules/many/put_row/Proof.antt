@@ -1,4 +1,4 @@
--- `runs_call::many_schedules::many::put_row` meets its contract: eight stores one after another.
+-- `runs_call::many_schedules::many::put_row` meets its contract: eight stores in order.
 use native.Mathlib.Omega.{arith}
 use lib.ListN.{length-set}
 use mathlib.Core.List.{[], _∷_}

@@ -1,4 +1,4 @@
--- `runs_call::many_schedules::many::run_row` runs one schedule from fresh arrays, and writes its row.
+-- `runs_call::many_schedules::many::run_row` meets its contract: it runs one schedule from fresh arrays, and writes its row.
 use mathlib.Core.Path.{ap, _∙_}
 use native.Mathlib.Omega.{arith}
 use lib.Seq.{sets}

@@ -1,4 +1,4 @@
--- `runs_call::many_schedules::many::run_rows` meets its contract: the rows stored so far, and those still ahead.
+-- `runs_call::many_schedules::many::run_rows` meets its contract: the rows stored so far, and those left.
 use mathlib.Core.Path.{_≡_, refl, ap, _∙_}
 use Prim.Native.Nat.{_+_, _-_}
 use native.Mathlib.Omega.{arith}

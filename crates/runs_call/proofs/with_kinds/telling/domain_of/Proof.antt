@@ -1,4 +1,4 @@
--- `runs_call::with_kinds::telling::domain_of`. Both rows without a domain are compared in turn.
+-- `runs_call::with_kinds::telling::domain_of` meets its contract: both rows without a domain are compared in turn.
 use borrow.Author.Tests.{eq-eqb, ne-eqb}
 use borrow.Author.Needs.{needs}
 use Rattle.runs_call.proofs.with_kinds.telling.domain_of.Statement.{statement}

@@ -1,4 +1,4 @@
--- `runs_call::with_kinds::telling::refusal_of` meets its contract: the tests before 28 refuse, or the room does, or 19 decides.
+-- `runs_call::with_kinds::telling::refusal_of` meets its contract: the tests before 28 refuse, or 28 does, or 19 decides.
 use Rattle.model.specs.Refusals.{refusal}
 use Rattle.runs_call.proofs.with_kinds.Refused.{run-answered, room-answered, alone, counters-answered}
 use borrow.Author.Needs.{needs}

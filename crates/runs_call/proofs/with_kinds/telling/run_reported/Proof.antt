@@ -1,4 +1,4 @@
--- `runs_call::with_kinds::telling::run_reported` meets its contract: refused, or run, and what was told of each step as two numbers.
+-- `runs_call::with_kinds::telling::run_reported` meets its contract: refused, or run, with two numbers for each reported step.
 use mathlib.Core.Path.{refl, ap}
 use native.Mathlib.Omega.{arith}
 use Rattle.lock.proofs.steps.Answering.{early-passes, kinds-few}
@@ -9,7 +9,7 @@ use borrow.Author.Needs.{needs}
 use Rattle.runs_call.proofs.with_kinds.telling.run_reported.Statement.{statement}
 use Rattle.runs_call.proofs.with_kinds.telling.run_reported.Tie as tie
 
--- the call's start, what was told of the refusal, where it is accepted, and where its steps are taken
+-- earlier points of the code: the start, after the tests, where they have passed, and after the steps
 abbrev first : tie.After-refusal-of → tie.Start
 first asked = asked .before .before .before .before .before .before .before .before .before .before .before .before .before .before .before .before
 

@@ -1,4 +1,4 @@
--- `runs_call::with_kinds::telling::spread` meets its contract: the steps from one on have two numbers each.
+-- `runs_call::with_kinds::telling::spread` meets its contract: the steps from a given one on have two numbers each.
 use mathlib.Core.Path.{_≡_}
 use Prim.Native.Nat.{_+_, _-_, _*_, _%_, _≤_}
 use native.Mathlib.Omega.{arith}

@@ -8,7 +8,7 @@ use borrow.Author.Needs.{needs}
 use Rattle.runs_call.proofs.with_waits.tested.waits_tested.Statement.{statement}
 use Rattle.runs_call.proofs.with_waits.tested.waits_tested.Tie as tie
 
--- where the tests are made, where they are passed, and where the steps are taken
+-- earlier points of the code: the start, after the tests, and where they have passed
 abbrev start : tie.After-refusal-of → tie.Start
 start told = told .before .before .before .before .before .before .before .before .before .before .before .before .before .before .before .before .before
 

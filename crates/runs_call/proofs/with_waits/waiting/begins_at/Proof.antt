@@ -1,4 +1,4 @@
--- `runs_call::with_waits::waiting::begins_at` meets its contract: where the home is a ticket root, Idle or Draw, else Swap at the home, each by its own test.
+-- `runs_call::with_waits::waiting::begins_at` meets its contract: Idle or Draw if the home is a ticket root, otherwise Swap at the home, each by its test.
 use borrow.Author.Tests.{eq-eqb, ne-eqb}
 use Rattle.runs_call.specs.WithWaits.Tallies.{begins-number}
 use borrow.Author.Needs.{needs}

@@ -1,4 +1,4 @@
--- `runs_call::with_waits::waiting::capped_sum` meets its contract: cut where the sum is no number of 64 bits.
+-- `runs_call::with_waits::waiting::capped_sum` meets its contract: capped if the sum exceeds 64 bits.
 use native.Mathlib.Omega.{arith}
 use borrow.Author.Needs.{needs}
 use Rattle.waits.specs.Rows.{capped}

@@ -1,4 +1,4 @@
--- `runs_call::with_waits::waiting::is_ticket_home` meets its contract: at a queue root never; at a ticket root the home decides.
+-- `runs_call::with_waits::waiting::is_ticket_home` meets its contract: never at a queue root; at a ticket root the home decides.
 use borrow.Author.Tests.{eq-eqb, ne-eqb}
 use Rattle.runs_call.proofs.with_waits.waiting.is_ticket_home.Statement.{statement}
 use Rattle.runs_call.proofs.with_waits.waiting.is_ticket_home.Tie as tie

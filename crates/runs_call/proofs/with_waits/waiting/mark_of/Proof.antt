@@ -1,4 +1,4 @@
--- `runs_call::with_waits::waiting::mark_of` meets its contract: none for 0, else as many as the number says before 2^63.
+-- `runs_call::with_waits::waiting::mark_of` meets its contract: 0 for 0, otherwise 2^63 + 2 minus the number.
 use borrow.Author.Needs.{needs}
 use borrow.Author.Tests.{eq-eqb, ne-eqb}
 use Rattle.runs_call.specs.WithWaits.Tallies.{mark-of}

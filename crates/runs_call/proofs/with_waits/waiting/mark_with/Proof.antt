@@ -1,4 +1,4 @@
--- `runs_call::with_waits::waiting::mark_with` meets its contract: one more than the entries, or the mark as it came, by its test.
+-- `runs_call::with_waits::waiting::mark_with` meets its contract: one more than the entries, or the mark unchanged, by its test.
 use borrow.Author.Needs.{needs}
 use Rattle.runs_call.proofs.with_waits.waiting.mark_with.Statement.{statement}
 use Rattle.runs_call.proofs.with_waits.waiting.mark_with.Tie as tie

@@ -1,4 +1,4 @@
--- `runs_call::with_waits::waiting::number_of` meets its contract: none for the mark 0, else one more than the entries since.
+-- `runs_call::with_waits::waiting::number_of` meets its contract: 0 for mark 0, otherwise one more than the entries since.
 use borrow.Author.Needs.{needs}
 use borrow.Author.Tests.{eq-eqb, ne-eqb}
 use Rattle.runs_call.specs.WithWaits.Tallies.{number-of}

@@ -1,4 +1,4 @@
--- `runs_call::with_waits::waiting::one_more` meets its contract: 1 or 0 more by its test, and one more fits.
+-- `runs_call::with_waits::waiting::one_more` meets its contract: 1 or 0 more, by its test; the sum fits.
 use mathlib.Core.Path.{sym}
 use native.Mathlib.Nat.{add-zero}
 use borrow.Author.Needs.{needs}

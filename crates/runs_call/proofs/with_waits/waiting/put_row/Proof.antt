@@ -1,4 +1,4 @@
--- `runs_call::with_waits::waiting::put_row` meets its contract: five stores one after another.
+-- `runs_call::with_waits::waiting::put_row` meets its contract: five stores in order.
 use native.Mathlib.Omega.{arith}
 use lib.ListN.{length-set}
 use Rattle.waits.specs.Rows.{row-with}

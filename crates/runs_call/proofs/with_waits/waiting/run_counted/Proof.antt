@@ -21,7 +21,7 @@ abbrev μ-loop : tie.MeasureT-loop
 μ-loop tree tails₀ nexts₀ statuses₀ places₀ domains₀ peers₀ words₀ ticket₀ granted₀ entries₀ tenures₀ longest₀ schedule trace₀ kinds rows under-way marks₀ attempts₀ totals₀ largest₀ tally₀ entered₀ from₀ tails nexts statuses places domains peers words ticket granted entries tenures longest trace marks attempts totals largest tally entered from =
     length schedule - from
 
--- where the loop's turn comes from; a piece's end in it, and the piece's run
+-- earlier points of the code: the start, the turn of the loop, and where the end of its piece is known
 abbrev start : tie.At-loop Inv-loop μ-loop → tie.Start Inv-loop μ-loop
 start turn = turn .before .before .before .before .before .before .before
 
@@ -113,7 +113,7 @@ put-rows-requires c κs =
     let first = start turn in
     (threads-few (first .args .tree) (run-facts _ _ _ _ (first .pre .1 .0) .tree), (first .pre .1 .1 .0, attempts-table _ _ _ _ _ _ _ _ _ _ _ _ _ _ _ _ (turn .loop .inv) (first .pre .1 .0)))
 
--- the loop's end, by what comes after it
+-- the end of the loop, from the point after it
 abbrev after-loop : tie.After-put-rows Inv-loop μ-loop → tie.After-loop Inv-loop μ-loop
 after-loop put = put .before .before .before .before .before
 

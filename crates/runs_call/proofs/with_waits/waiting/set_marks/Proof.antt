@@ -11,7 +11,7 @@ use Rattle.runs_call.specs.WithWaits.Tallies.{mark-of}
 use Rattle.runs_call.proofs.with_waits.waiting.set_marks.Statement.{statement}
 use Rattle.runs_call.proofs.with_waits.waiting.set_marks.Tie as tie
 
--- the first k are set
+-- the first k marks are set
 record Set-so-far (us M : List ℕ) (k : ℕ) : Type 0 where
   long : length M ≡ 256
   within : k ≤ 256
