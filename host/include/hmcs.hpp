@@ -301,7 +301,7 @@ struct [[nodiscard]] ChainResult : Result {
 };
 
 // What one step of a run was: a row of hmcs_run_kinds.
-struct Told {
+struct StepKind {
     Kind kind = Kind::stay;
     std::uint32_t domain = 0; // where the step happened; the thread's home if it was idle or inside
 };
@@ -309,7 +309,7 @@ struct Told {
 // A run with the kind and domain of each step; if refused, no steps.
 struct [[nodiscard]] KindsResult {
     RunResult run;
-    std::vector<Told> steps; // one for each turn, in schedule order
+    std::vector<StepKind> steps; // one for each turn, in schedule order
 
     bool accepted() const noexcept { return run.accepted(); }
     bool refused() const noexcept { return run.refused(); }
@@ -385,7 +385,7 @@ class Lock {
         under_way_known_ = under_way_known_ && result.run.counts.steps == 0;
         for (std::size_t row = 0; row < reply.rows; ++row) {
             const std::uint16_t *n = numbers.data() + row * HMCS_NUMBERS_PER_KINDS_ROW;
-            result.steps.push_back(Told{static_cast<Kind>(n[0]), n[1]});
+            result.steps.push_back(StepKind{static_cast<Kind>(n[0]), n[1]});
         }
         return result;
     }

@@ -67,24 +67,24 @@ void longest_waits() {
     }
 }
 
-bool tells(const hmcs::Tree &tree, std::uint64_t rounds, std::uint64_t turns) {
-    const hmcs::RoundsResult told = hmcs::rounds(tree);
-    return told.accepted() && told.rounds == rounds && told.turns == turns;
+bool answers(const hmcs::Tree &tree, std::uint64_t rounds, std::uint64_t turns) {
+    const hmcs::RoundsResult answer = hmcs::rounds(tree);
+    return answer.accepted() && answer.rounds == rounds && answer.turns == turns;
 }
 
 // Two threads in the root, of either kind, the example, thresholds of one member, two levels, and three threads in three tenures, in two and in one; numbers beyond 64 bits, the turns alone first; and a refusal.
 void rounds() {
-    CHECK(tells(root_alone(hmcs::RootKind::queue, 2), 19, 38));
-    CHECK(tells(root_alone(hmcs::RootKind::ticket, 2), 19, 38));
-    CHECK(tells(example_tree(), 44, 132));
-    CHECK(tells(hmcs::read_tree("(16(#1) 16(#1))").tree, 29, 58));
-    CHECK(tells(hmcs::read_tree("(5(3(#1) 2(#1)))").tree, 44, 88));
-    CHECK(tells(hmcs::read_tree("(1(#3))").tree, 55, 165));
-    CHECK(tells(hmcs::read_tree("(2(#3))").tree, 42, 126));
-    CHECK(tells(hmcs::read_tree("(3(#3))").tree, 38, 114));
-    CHECK(tells(hmcs::read_tree("(65535(65535(65535(65535(65535(#1))))) 1(#1))").tree, 69, 138));
-    CHECK(tells(hmcs::read_tree("(65535(65535(65535(8192(#2) 1(#1)) 1(#1)) 1(#1)) 1(#1))").tree, 16140162203956224025u, UINT64_MAX));
-    CHECK(tells(hmcs::read_tree("(65535(65535(65535(65535(65535(#2) 1(#1)) 1(#1)) 1(#1)) 1(#1)) 1(#1))").tree, UINT64_MAX, UINT64_MAX));
+    CHECK(answers(root_alone(hmcs::RootKind::queue, 2), 19, 38));
+    CHECK(answers(root_alone(hmcs::RootKind::ticket, 2), 19, 38));
+    CHECK(answers(example_tree(), 44, 132));
+    CHECK(answers(hmcs::read_tree("(16(#1) 16(#1))").tree, 29, 58));
+    CHECK(answers(hmcs::read_tree("(5(3(#1) 2(#1)))").tree, 44, 88));
+    CHECK(answers(hmcs::read_tree("(1(#3))").tree, 55, 165));
+    CHECK(answers(hmcs::read_tree("(2(#3))").tree, 42, 126));
+    CHECK(answers(hmcs::read_tree("(3(#3))").tree, 38, 114));
+    CHECK(answers(hmcs::read_tree("(65535(65535(65535(65535(65535(#1))))) 1(#1))").tree, 69, 138));
+    CHECK(answers(hmcs::read_tree("(65535(65535(65535(8192(#2) 1(#1)) 1(#1)) 1(#1)) 1(#1))").tree, 16140162203956224025u, UINT64_MAX));
+    CHECK(answers(hmcs::read_tree("(65535(65535(65535(65535(65535(#2) 1(#1)) 1(#1)) 1(#1)) 1(#1)) 1(#1))").tree, UINT64_MAX, UINT64_MAX));
     hmcs::Tree empty = example_tree();
     empty.add_domain(0, 4);
     const hmcs::RoundsResult refused = hmcs::rounds(empty);
@@ -95,9 +95,9 @@ void rounds() {
 void everyone_enters() {
     hmcs::Lock lock(example_tree());
     CHECK(lock.run({2, 2, 2, 2, 2, 0, 0, 0, 0, 1, 1, 1, 1}).accepted());
-    const hmcs::RoundsResult told = hmcs::rounds(example_tree());
+    const hmcs::RoundsResult answer = hmcs::rounds(example_tree());
     std::vector<std::uint16_t> turns;
-    for (std::uint64_t turn = 0; turn < told.turns; ++turn)
+    for (std::uint64_t turn = 0; turn < answer.turns; ++turn)
         turns.push_back(static_cast<std::uint16_t>(turn % 3));
     const hmcs::RunResult ran = lock.run(turns);
     CHECK(ran.accepted());

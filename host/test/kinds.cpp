@@ -19,8 +19,8 @@ using Rows = std::vector<std::pair<std::uint32_t, std::uint32_t>>;
 
 Rows rows_of(const hmcs::KindsResult &result) {
     Rows rows;
-    for (const hmcs::Told &told : result.steps) {
-        rows.emplace_back(static_cast<std::uint32_t>(told.kind), told.domain);
+    for (const hmcs::StepKind &step : result.steps) {
+        rows.emplace_back(static_cast<std::uint32_t>(step.kind), step.domain);
     }
     return rows;
 }
@@ -58,11 +58,11 @@ void wrapper() {
     CHECK(same(lock.state(), plain.state()));
     // single steps give the same, at both kinds of root, also from a state that is not fresh
     for (const hmcs::RootKind root : {hmcs::RootKind::queue, hmcs::RootKind::ticket}) {
-        hmcs::Lock told(two_domains(root)), stepped(two_domains(root));
+        hmcs::Lock ran(two_domains(root)), stepped(two_domains(root));
         for (const std::size_t length : {0U, 1U, 500U, 3000U}) {
             const Schedule turns = mixed(3, length);
-            CHECK(rows_of(told.run_kinds(turns)) == by_single_steps(stepped, turns));
-            CHECK(same(told.state(), stepped.state()));
+            CHECK(rows_of(ran.run_kinds(turns)) == by_single_steps(stepped, turns));
+            CHECK(same(ran.state(), stepped.state()));
         }
     }
     CHECK(lock.run_kinds(Schedule{0, 3}).run.refusal.number == HMCS_BAD_ENTRY && lock.run_kinds(Schedule{3}).steps.empty());
@@ -92,8 +92,8 @@ void buffers() {
                     CHECK(trace.as<std::uint16_t>()[k] == (number == 0 && k < 3 ? k : 0x3333));
                 }
                 for (std::size_t k = 0; k < room; ++k) {
-                    const std::uint32_t told = k < 44 ? (k % 2 == 0 ? wanted[k / 2].first : wanted[k / 2].second) : 0;
-                    CHECK(rows.as<std::uint16_t>()[k] == (number == 0 && k < 44 ? told : 0x3333));
+                    const std::uint32_t reported = k < 44 ? (k % 2 == 0 ? wanted[k / 2].first : wanted[k / 2].second) : 0;
+                    CHECK(rows.as<std::uint16_t>()[k] == (number == 0 && k < 44 ? reported : 0x3333));
                 }
             }
         }

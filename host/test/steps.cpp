@@ -19,9 +19,9 @@ struct Trace {
 
 Trace trace_of(hmcs::Lock &lock, const Numbers &schedule) {
     Trace trace{schedule, {}, {}};
-    for (const hmcs::Told &told : lock.run_kinds(schedule).steps) {
-        trace.kinds.push_back(static_cast<std::uint16_t>(told.kind));
-        trace.domains.push_back(static_cast<std::uint16_t>(told.domain));
+    for (const hmcs::StepKind &step : lock.run_kinds(schedule).steps) {
+        trace.kinds.push_back(static_cast<std::uint16_t>(step.kind));
+        trace.domains.push_back(static_cast<std::uint16_t>(step.domain));
     }
     return trace;
 }

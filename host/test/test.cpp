@@ -299,7 +299,7 @@ void kinds(hmcs::RootKind root) {
         const hmcs_state before = lock.state();
         hmcs_state by_value = before;
         std::vector<std::uint16_t> schedule;
-        std::uint32_t told[6] = {};
+        std::uint32_t of_kind[6] = {};
         for (std::uint32_t k = 0; k < 3000; ++k) {
             const auto thread = static_cast<std::uint16_t>(random(tree.words().threads));
             schedule.push_back(thread);
@@ -312,15 +312,15 @@ void kinds(hmcs::RootKind root) {
             CHECK(step.domain == (at_home ? tree.words().homes[thread] : place.domain));
             CHECK((step.kind == HMCS_LEAVING) == (place.row == HMCS_ROW_INSIDE));
             CHECK((step.kind == HMCS_STAY) == same(by_value, step.state));
-            ++told[step.kind];
+            ++of_kind[step.kind];
             by_value = step.state;
         }
         hmcs::Lock other(tree, 65500);
         const hmcs::Counts counts = other.run(schedule).counts;
-        CHECK(counts.steps == 3000 && counts.stays == told[HMCS_STAY] && counts.root == told[HMCS_ROOT_ENTRY]);
-        CHECK(counts.passed == told[HMCS_PASSED_ENTRY] && counts.crossed == told[HMCS_CROSSED_ENTRY]);
-        CHECK(counts.entries == told[HMCS_ROOT_ENTRY] + told[HMCS_PASSED_ENTRY] + told[HMCS_CROSSED_ENTRY]);
-        CHECK(told[HMCS_LEAVING] + (other.holder() ? 1 : 0) == counts.entries);
+        CHECK(counts.steps == 3000 && counts.stays == of_kind[HMCS_STAY] && counts.root == of_kind[HMCS_ROOT_ENTRY]);
+        CHECK(counts.passed == of_kind[HMCS_PASSED_ENTRY] && counts.crossed == of_kind[HMCS_CROSSED_ENTRY]);
+        CHECK(counts.entries == of_kind[HMCS_ROOT_ENTRY] + of_kind[HMCS_PASSED_ENTRY] + of_kind[HMCS_CROSSED_ENTRY]);
+        CHECK(of_kind[HMCS_LEAVING] + (other.holder() ? 1 : 0) == counts.entries);
         CHECK((counts.crossed > 0) == (depth == 2) && (counts.passed > 0) == (depth > 0));
     }
 }

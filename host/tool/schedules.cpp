@@ -150,8 +150,8 @@ std::vector<std::uint16_t> turns_of(const std::string &path, const std::string &
         const std::size_t end = std::min(bytes.find_first_of(" \t\r\n", at), bytes.size());
         const std::string word = bytes.substr(at, std::min<std::size_t>(end - at, 30));
         std::uint64_t thread = 0;
-        const auto [behind, error] = std::from_chars(bytes.data() + at, bytes.data() + end, thread);
-        if (behind != bytes.data() + end || error == std::errc::invalid_argument) {
+        const auto [stopped, error] = std::from_chars(bytes.data() + at, bytes.data() + end, thread);
+        if (stopped != bytes.data() + end || error == std::errc::invalid_argument) {
             fail(path + ": turn " + std::to_string(schedule.size()) + " must be a thread number, not \"" + word + "\"");
         }
         // a number above 65,535 is refused like 65,535

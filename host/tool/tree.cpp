@@ -7,12 +7,12 @@ namespace tool {
 namespace {
 
 std::string rounds_line(const hmcs::Tree &tree) {
-    const hmcs::RoundsResult told = hmcs::rounds(tree);
-    if (told.rounds == UINT64_MAX) {
+    const hmcs::RoundsResult answer = hmcs::rounds(tree);
+    if (answer.rounds == UINT64_MAX) {
         return "every thread enters sooner or later, but the bound on rounds is 2^64-1 or more\n";
     }
-    const std::string turns = told.turns == UINT64_MAX ? "2^64-1 turns or more" : std::to_string(told.turns) + " turns";
-    return "every thread enters within " + std::to_string(told.rounds) + " rounds, " + turns + " by round robin\n";
+    const std::string turns = answer.turns == UINT64_MAX ? "2^64-1 turns or more" : std::to_string(answer.turns) + " turns";
+    return "every thread enters within " + std::to_string(answer.rounds) + " rounds, " + turns + " by round robin\n";
 }
 
 } // namespace

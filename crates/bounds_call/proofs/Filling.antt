@@ -76,11 +76,11 @@ listed f (w ∷ ws) (suc k) d l e =
 pub record Filled (t : Tree) (d : ℕ) (words : List ℕ) : Type 0 where
   pub done : (c : ℕ) → d ≤ c → c < t .domains → getD words c 0 ≡ capped (allowance t (256 + c))
   pub rest : (c : ℕ) → c < d → getD words c 0 ≡ 0
-  pub behind : (c : ℕ) → t .domains ≤ c → getD words c 0 ≡ 0
+  pub after : (c : ℕ) → t .domains ≤ c → getD words c 0 ≡ 0
 
 -- no domain is done yet
 pub filled-none : (t : Tree) → t .domains ≤ 64 → Filled t (t .domains) (replicate 64 0)
-filled-none t few = record { done = λ c a b. absurd (omega arith); rest = λ c h. zeros 64 c; behind = λ c h. zeros 64 c }
+filled-none t few = record { done = λ c a b. absurd (omega arith); rest = λ c h. zeros 64 c; after = λ c h. zeros 64 c }
 
 -- one more domain is done
 pub filled-next :
@@ -90,7 +90,7 @@ filled-next t d ws x filled l s e =
     record {
       done = λ c a b. same-or c d _ (λ z. rw z (getD-set-same ws d x 0 l ∙ e)) (λ z. getD-set-other ws d c x 0 z ∙ filled .done c (omega arith) b);
       rest = λ c h. getD-set-other ws d c x 0 (omega arith) ∙ filled .rest c (omega arith);
-      behind = λ c h. getD-set-other ws d c x 0 (omega arith) ∙ filled .behind c h;
+      after = λ c h. getD-set-other ws d c x 0 (omega arith) ∙ filled .after c h;
     }
 
 -- all domains but the root are done: the words of the buffer
@@ -102,7 +102,7 @@ word-of t ws filled x true b e g = let z : 0 + x ≡ x = omega arith in rw (z, e
 word-of t ws filled x false true e g =
     let z : 0 + x ≡ x = omega arith in
     rw (z, e, g) (filled .done x (omega (arith, eqb-false x 0 e)) (ltb-true x (t .domains) g))
-word-of t ws filled x false false e g = let z : 0 + x ≡ x = omega arith in rw (z, e, g) (filled .behind x (ltb-false x (t .domains) g))
+word-of t ws filled x false false e g = let z : 0 + x ≡ x = omega arith in rw (z, e, g) (filled .after x (ltb-false x (t .domains) g))
 
 pub filled-all : (t : Tree) (ws : List ℕ) → Filled t 1 ws → length ws ≡ 64 → ws ≡ words-from (allowance-word t) 64 0
 filled-all t ws filled l = listed (allowance-word t) ws 64 0 l (λ x h. word-of t ws filled x (eqb x 0) (ltb x (t .domains)) refl refl)
@@ -118,7 +118,7 @@ module _ (t : Tree) (valid : Accepted t) where
       child : (c : ℕ) → c < t .domains → (b : Bool) → is-child t d c ≡ b → cond (is-child t d c) (getD ws c 0) 0 ≡ capped (cond (is-child t d c) (allowance t (256 + c)) 0)
       child c s true e =
           let k = child-facts t d c e in
-          rw e (filled .done c (omega (arith, valid .parent-lower c (k .no-root) s, k .hangs)) s)
+          rw e (filled .done c (omega (arith, valid .parent-lower c (k .no-root) s, k .its-child)) s)
       child c s false e = rw e (sym (capped-small 0 (omega arith)))
 
       go :

@@ -19,7 +19,7 @@ use Rattle.model.specs.Refusals.{Refusal, refusal, accepted, Test, test, lowest
 use Rattle.model.specs.Cases.Marked.{padded, tree, at-ticket-root, uncounted, counters, two-homes, root-alone, two-in-root, same-numbers}
 use Rattle.chain.specs.Chain.{stays, acts-ahead, acts-holding, looked-to, looks-to, only, among, chain-from, chain}
 use Rattle.chain.specs.Answers.{bad-buffer, bad-chain, chain-tests, chain-refusal, chain-reply, chain-buffer, chain-answer, buffer-answer}
-use Rattle.chain.specs.Cases.Chains.{Case, gives, refuses, refuses-at, breaks, counted, sevens, roomy, gave, refused-at, refused, holds, all-hold, three-in-root, three-in-ticket, cases}
+use Rattle.chain.specs.Cases.Chains.{Case, gives, refuses, refuses-at, breaks, counted, sevens, long-buffer, gave, refused-at, refused, holds, all-hold, three-in-root, three-in-ticket, cases}
 use Rattle.model.proofs.Tests.{and-both}
 use Rattle.model.proofs.Walks.{walked, zero-from, first-pass, formed-by-walks, same-formed, counts-by-walks, zipped}
 use Rattle.model.proofs.Computing.{refusal-by, same-lock-formed, state-sized, sized}
@@ -42,9 +42,9 @@ same-refusal w s i room e =
 
 unfoldable holds-by-walks : Case → Bool
 holds-by-walks (gives w s i c) =
-    let r = walked-refusal w (uncounted s) i (length (roomy w)) in
+    let r = walked-refusal w (uncounted s) i (length (long-buffer w)) in
     let x = chain (tree-of w) s i in
-    gave (chain-reply r x) (chain-buffer r x (roomy w)) (roomy w) 0 c
+    gave (chain-reply r x) (chain-buffer r x (long-buffer w)) (long-buffer w) 0 c
 holds-by-walks (refuses w s i room n) =
     let r = walked-refusal w (uncounted s) i (length (sevens room)) in
     let x = chain (tree-of w) s i in
@@ -58,9 +58,9 @@ holds-by-walks (breaks w s i last c) =
     let x = chain (tree-of w) s i in
     refused (chain-reply r x) (chain-buffer r x (sevens (w .threads))) (sevens (w .threads)) 21 && same-numbers (looks-to (tree-of w) s last) c
 holds-by-walks (counted w s k i n c) =
-    let r = walked-refusal w (lock-state s k) i (length (roomy w)) in
+    let r = walked-refusal w (lock-state s k) i (length (long-buffer w)) in
     let x = chain (tree-of w) s i in
-    gave (chain-reply r x) (chain-buffer r x (roomy w)) (roomy w) n c
+    gave (chain-reply r x) (chain-buffer r x (long-buffer w)) (long-buffer w) n c
 
 unfoldable all-hold-by-walks : List Case → Bool
 all-hold-by-walks [] = true
@@ -80,11 +80,11 @@ all-sized (c ∷ cs) = case-sized c && all-sized cs
 
 same-case : (c : Case) → case-sized c ≡ true → holds c ≡ holds-by-walks c
 unfolding holds-by-walks case-sized holds chain-answer buffer-answer
-same-case (gives w s i c) e = rw (same-refusal w (uncounted s) i (length (roomy w)) e)
+same-case (gives w s i c) e = rw (same-refusal w (uncounted s) i (length (long-buffer w)) e)
 same-case (refuses w s i room n) e = rw (same-refusal w (uncounted s) i (length (sevens room)) e)
 same-case (refuses-at w s i room n p) e = rw (same-refusal w (uncounted s) i (length (sevens room)) e)
 same-case (breaks w s i last c) e = rw (same-refusal w (uncounted s) i (length (sevens (w .threads))) e)
-same-case (counted w s k i n c) e = rw (same-refusal w (lock-state s k) i (length (roomy w)) e)
+same-case (counted w s k i n c) e = rw (same-refusal w (lock-state s k) i (length (long-buffer w)) e)
 
 same-cases : (cs : List Case) → all-sized cs ≡ true → all-hold cs ≡ all-hold-by-walks cs
 unfolding all-hold all-hold-by-walks all-sized

@@ -36,14 +36,14 @@ unfoldable pub Chain-refusal-law : Type 0
 Chain-refusal-law = (t : Tree) (s : LockState) (i room : ℕ) → Refuses-exactly (chain-tests t s i room)
 
 -- 3. FROM FRESH. While the thread ahead takes no step, the one after it can only stay: after every schedule without the one ahead, its next step is a stay
-unfoldable pub Only-stays : Tree → State → (behind ahead : ℕ) → Type 0
+unfoldable pub Only-stays : Tree → State → (waiting ahead : ℕ) → Type 0
 Only-stays t s a b = (js : List ℕ) → All-threads t js → occurrences b js ≡ 0 → step t a (run t js s .state) .kind ≡ stay
 
 -- two threads one after the other in a list
-pub record Link-in (chain : List ℕ) (behind ahead : ℕ) : Type 0 where
+pub record Link-in (chain : List ℕ) (waiting ahead : ℕ) : Type 0 where
   pub before : List ℕ
   pub after : List ℕ
-  pub there : chain ≡ before ++ (behind ∷ ahead ∷ after)
+  pub there : chain ≡ before ++ (waiting ∷ ahead ∷ after)
 
 -- the chain has its thread first, no thread twice, and at its end a thread whose next step is not a stay; at every link, while the thread ahead takes no step, the one after it can only stay
 pub record Explains (t : Tree) (s : State) (i : ℕ) (chain : List ℕ) : Type 0 where

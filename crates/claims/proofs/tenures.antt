@@ -3,7 +3,7 @@ pub mod Children
 pub mod Firsts
 pub mod LeafTenures
 pub mod LeafMoves
-pub mod Telling
+pub mod Reporting
 pub mod Along
 pub mod Tracking
 pub mod Law

@@ -29,22 +29,22 @@ last-state [] s = s
 last-state (c ∷ cs) s = last-state cs (state-in (answer c s))
 
 -- existing threads, no more entries than are allowed, and a trace buffer at least as long as the schedule
-unfoldable pub Well-asked : Tree → Ask → Type 0
-Well-asked t (one-step i) = i < t .threads
-Well-asked t (a-run is b) = All-threads t is × (length is ≤ 65536) × (length is ≤ length b)
+unfoldable pub Valid-ask : Tree → Ask → Type 0
+Valid-ask t (one-step i) = i < t .threads
+Valid-ask t (a-run is b) = All-threads t is × (length is ≤ 65536) × (length is ≤ length b)
 
 unfoldable pub Never-refused : Type 0
 Never-refused =
     (w : TreeWords) (start : ℕ) (cs : List Call) → fresh-answer w start .number ≡ 0 → Names (tree-of w) cs (fresh-answer w start .state) →
-    (c : Call) → tree-of (c .tree) ≡ tree-of w → Well-asked (tree-of w) (c .ask) →
+    (c : Call) → tree-of (c .tree) ≡ tree-of w → Valid-ask (tree-of w) (c .ask) →
     length (joined cs (fresh-answer w start .state)) + length (asked-entries (c .ask)) ≤ most-counted → call-refusal c (last-state cs (fresh-answer w start .state)) ≡ accepted
 
 -- in any state, a call that is accepted asks so; and the longest run that is allowed does
-unfoldable pub Well-asked-law : Type 0
-Well-asked-law = (t : Tree) (a : Ask) (s : LockState) → ask-refusal t a s .number ≡ 0 → Well-asked t a
+unfoldable pub Valid-ask-law : Type 0
+Valid-ask-law = (t : Tree) (a : Ask) (s : LockState) → ask-refusal t a s .number ≡ 0 → Valid-ask t a
 
 unfoldable pub Longest-run-law : Type 0
-Longest-run-law = (t : Tree) → 0 < t .threads → Well-asked t (a-run (replicate 65536 0) (replicate 65536 0))
+Longest-run-law = (t : Tree) → 0 < t .threads → Valid-ask t (a-run (replicate 65536 0) (replicate 65536 0))
 
 -- THE LISTING'S TEST. Check as the listing has it, by equality with the threshold
 unfoldable pub equality-check-row : Tree → (thread domain : ℕ) → State → Row-result
@@ -122,7 +122,7 @@ unfoldable pub Queue-law : Type 0
 Queue-law =
     (t : Tree) (start : ℕ) (is : List ℕ) → Fresh-run t is → Has-queues t (fresh-state t start) is (run t is (fresh-state t start) .state)
 
--- AT MOST 256 WAIT: no queue has more members, that of a ticket root included; so counters of 16 bits tell their tickets apart
+-- AT MOST 256 WAIT: no queue has more members, that of a ticket root included; so 16-bit counters distinguish their tickets
 unfoldable pub Few-waiting-law : Type 0
 Few-waiting-law =
     (t : Tree) → tree-refusal t .number ≡ 0 → (f : State) (S : List ℕ) (s : State) → (x : Has-queues t f S s) → (d : ℕ) → length (x .queue d) ≤ 256

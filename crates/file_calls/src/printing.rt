@@ -48,13 +48,13 @@ fn put_numeral(output: &mut [u8], at: usize, value: u32) -> usize
 }
 
 // Writes a numeral and the byte after it, and returns the position after both.
-fn put_number(output: &mut [u8], at: usize, value: u32, behind: u8) -> usize
-    requires { ⌜ at + length (number-then value behind) ≤ length (now output) ⌝ }
-    ensures { λ r. ⌜ r ≡ at + length (number-then value behind) ⌝ }
-    ensures { λ r. ⌜ now (output .exit) ≡ sets (now (output .entry)) at (number-then value behind) ⌝ }
+fn put_number(output: &mut [u8], at: usize, value: u32, following: u8) -> usize
+    requires { ⌜ at + length (number-then value following) ≤ length (now output) ⌝ }
+    ensures { λ r. ⌜ r ≡ at + length (number-then value following) ⌝ }
+    ensures { λ r. ⌜ now (output .exit) ≡ sets (now (output .entry)) at (number-then value following) ⌝ }
 {
     let end = put_numeral(output, at, value);
-    output[end] = behind;
+    output[end] = following;
     end + 1
 }
 

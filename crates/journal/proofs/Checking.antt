@@ -24,17 +24,17 @@ module _ (t : Tree) (bs : List ℕ) where
   unfolding checked
   by-entry n s p b x e = ap (λ y. entry-checked y t s p (λ s′ q j. checked n t s′ bs q j)) e
 
-  module _ (n : ℕ) (s : State) (p b i k behind : ℕ) (e : entry-at bs p b ≡ Named i k behind) where
+  module _ (n : ℕ) (s : State) (p b i k next : ℕ) (e : entry-at bs p b ≡ Named i k next) where
     pub unknown-thread : t .threads ≤ i → checked (suc n) t s bs p b ≡ refusal 12 p
     unfolding entry-checked
     unknown-thread h = by-entry n s p b _ e ∙ rw (le-leb (t .threads) i h)
 
     module _ (h : i < t .threads) where
-      by-kind : checked (suc n) t s bs p b ≡ kind-checked k p (step t i s) (λ s′. checked n t s′ bs behind i)
+      by-kind : checked (suc n) t s bs p b ≡ kind-checked k p (step t i s) (λ s′. checked n t s′ bs next i)
       unfolding entry-checked
       by-kind = by-entry n s p b _ e ∙ rw (lt-leb (t .threads) i h)
 
-      pub same-kind : k ≡ kind-number (step t i s .kind) → checked (suc n) t s bs p b ≡ checked n t (step t i s .state) bs behind i
+      pub same-kind : k ≡ kind-number (step t i s .kind) → checked (suc n) t s bs p b ≡ checked n t (step t i s .state) bs next i
       unfolding kind-checked
       same-kind f = by-kind ∙ rw (eq-eqb (kind-number (step t i s .kind)) k (sym f))
 

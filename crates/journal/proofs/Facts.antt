@@ -19,7 +19,7 @@ whole-entry bs p b m h e k f = rw (lt-ltb p (length bs) h, e, le-ltb 3 m k, le-l
 
 -- what follows a whole entry is further on and within the journal; at the end no byte is left
 abbrev pub Ahead : (bytes : List ℕ) → (position : ℕ) → Entry → Type 0
-Ahead bs p (Named i k behind) = (p < behind) × (behind ≤ length bs)
+Ahead bs p (Named i k next) = (p < next) × (next ≤ length bs)
 Ahead bs p Broken = Unit
 Ahead bs p End = length bs ≤ p
 
@@ -33,8 +33,8 @@ ahead bs p b = by (ltb p (length bs)) (ltb 3 (getD bs p 0)) (ltb (length bs - p)
     by true false true e f = tt
     by true false false e f = (omega arith, omega (arith, ltb-true p (length bs) e, ltb-false (length bs - p) (entry-size (getD bs p 0)) f))
 
-pub moves-on : (bs : List ℕ) (p b i k behind : ℕ) → entry-at bs p b ≡ Named i k behind → (p < behind) × (behind ≤ length bs)
-moves-on bs p b i k behind e = subst (Ahead bs p) e (ahead bs p b)
+pub moves-on : (bs : List ℕ) (p b i k next : ℕ) → entry-at bs p b ≡ Named i k next → (p < next) × (next ≤ length bs)
+moves-on bs p b i k next e = subst (Ahead bs p) e (ahead bs p b)
 
 pub at-end : (bs : List ℕ) (p b : ℕ) → entry-at bs p b ≡ End → length bs ≤ p
 at-end bs p b e = subst (Ahead bs p) e (ahead bs p b)

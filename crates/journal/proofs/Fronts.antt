@@ -19,9 +19,9 @@ first-after : (xs ys : List ℕ) → getD (xs ++ ys) (length xs) 0 ≡ getD ys 0
 first-after [] ys = refl
 first-after (x ∷ xs) ys = first-after xs ys
 
-behind : (xs ys : List ℕ) (j : ℕ) → getD (xs ++ ys) (length xs + j) 0 ≡ getD ys j 0
-behind [] ys j = let z : 0 + j ≡ j = omega arith in rw z
-behind (x ∷ xs) ys j = let z : suc (length xs) + j ≡ suc (length xs + j) = omega arith in rw z (behind xs ys j)
+each-after : (xs ys : List ℕ) (j : ℕ) → getD (xs ++ ys) (length xs + j) 0 ≡ getD ys j 0
+each-after [] ys j = let z : 0 + j ≡ j = omega arith in rw z
+each-after (x ∷ xs) ys j = let z : suc (length xs) + j ≡ suc (length xs + j) = omega arith in rw z (each-after xs ys j)
 
 module _ (bs done rest : List ℕ) (e : bs ≡ done ++ rest) where
   long : length bs ≡ length done + length rest
@@ -31,7 +31,7 @@ module _ (bs done rest : List ℕ) (e : bs ≡ done ++ rest) where
   first-is = ap (λ xs. getD xs (length done) 0) e ∙ first-after done rest
 
   byte-is : (j : ℕ) → getD bs (length done + j) 0 ≡ getD rest j 0
-  byte-is j = ap (λ xs. getD xs (length done + j) 0) e ∙ behind done rest j
+  byte-is j = ap (λ xs. getD xs (length done + j) 0) e ∙ each-after done rest j
 
   -- the end of the bytes
   pub end-there : (b : ℕ) → rest ≡ [] → entry-at bs (length done) b ≡ End

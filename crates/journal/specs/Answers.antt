@@ -24,16 +24,16 @@ unfoldable pub kind-checked : (kind position : ℕ) → Step → (following : St
 kind-checked k p x f = cond (eqb (kind-number (x .kind)) k) (f (x .state)) (refusal 26 p)
 
 -- one entry: 25 if it is cut off or has another bit set; then 12 for its thread; then 26. The place is that of its first byte
-unfoldable pub entry-checked : Entry → Tree → State → (position : ℕ) → (following : State → (behind thread : ℕ) → Refusal) → Refusal
-entry-checked (Named i k behind) t s p f =
-    cond (leb (t .threads) i) (refusal 12 p) (kind-checked k p (step t i s) (λ s′. f s′ behind i))
+unfoldable pub entry-checked : Entry → Tree → State → (position : ℕ) → (following : State → (next thread : ℕ) → Refusal) → Refusal
+entry-checked (Named i k next) t s p f =
+    cond (leb (t .threads) i) (refusal 12 p) (kind-checked k p (step t i s) (λ s′. f s′ next i))
 entry-checked Broken t s p f = refusal 25 p
 entry-checked End t s p f = accepted
 
 -- the entries from a position on, whose steps follow one another from a state; at most `left` entries
 unfoldable pub checked : (left : ℕ) → Tree → State → (bytes : List ℕ) → (position before : ℕ) → Refusal
 checked zero t s bs p b = accepted
-checked (suc n) t s bs p b = entry-checked (entry-at bs p b) t s p (λ s′ behind i. checked n t s′ bs behind i)
+checked (suc n) t s bs p b = entry-checked (entry-at bs p b) t s p (λ s′ next i. checked n t s′ bs next i)
 
 -- 4 to 9 and 16 for the tree, then the entries, from a fresh lock. A journal has at most as many entries as bytes
 unfoldable pub journal-refusal : TreeWords → (bytes : List ℕ) → Refusal

@@ -3,11 +3,7 @@ pub mod step_check;
 
 // What is at a position: an entry, with the thread and the kind that it names and the position after it; an entry that is cut off or has another bit set; or the end of the journal.
 pub enum Entry {
-    Named {
-        thread: u16,
-        kind: u8,
-        behind: usize,
-    },
+    Named { thread: u16, kind: u8, next: usize },
     Broken,
     End,
 }

@@ -130,18 +130,18 @@ module _ (w : TreeWords) (bs : List ℕ) where
             rw f (answers ok s p b g (refusal 26 (position-after m bs p b)) stops)
 
         module _ (h : c .count ≤ m) where
-          behind : checked (length bs) t s bs p b ≡ checked (length bs) t (state-after s (steps t is s)) bs (c .position) (c .before)
-          behind = goes-on t bs read s (same-kinds (length is) (omega (arith, long)))
+          rest-checked : checked (length bs) t s bs p b ≡ checked (length bs) t (state-after s (steps t is s)) bs (c .position) (c .before)
+          rest-checked = goes-on t bs read s (same-kinds (length is) (omega (arith, long)))
 
           -- reading stopped with a number
           pub stops : c .number ≢ 0 → replied (refusal (c .number) (c .position)) ≡ journal-answer w bs
           unfolding tree-of
-          stops n = answers ok s p b g (refusal (c .number) (c .position)) (behind ∙ stopped-by t bs _ (c .position) (c .before) (c .number) (r .stops) n)
+          stops n = answers ok s p b g (refusal (c .number) (c .position)) (rest-checked ∙ stopped-by t bs _ (c .position) (c .before) (c .number) (r .stops) n)
 
           -- the end of the journal
           pub ends : length bs ≤ c .position → replied (refusal 0 0) ≡ journal-answer w bs
           unfolding accepted
-          ends n = answers ok s p b g accepted (behind ∙ ended t bs _ (c .position) (c .before) n)
+          ends n = answers ok s p b g accepted (rest-checked ∙ ended t bs _ (c .position) (c .before) n)
 
           -- the next piece
           pub turn : (s′ : State) → s′ ≡ run t is s .state → So-far w bs s′ (c .position) (c .before)
@@ -150,7 +150,7 @@ module _ (w : TreeWords) (bs : List ℕ) where
               record {
                 passes = ok;
                 formed = subst (λ x. Formed t x) (sym f) (form-law t (sixteen-bit w) ok .of-run is s (stretch-threads t read) (g .formed));
-                ahead = ap (λ x. checked (length bs) t x bs (c .position) (c .before)) f ∙ sym behind ∙ g .ahead;
+                ahead = ap (λ x. checked (length bs) t x bs (c .position) (c .before)) f ∙ sym rest-checked ∙ g .ahead;
               }
 
 -- a turn that stops has the answer

@@ -26,7 +26,7 @@ stretch-threads t (one-read f h s) = (h, stretch-threads t s)
 
 pub stretch-moves : {known : ℕ} {bs is ks : List ℕ} {p b e l : ℕ} → Stretch known bs p b is ks e l → p + length is ≤ e
 stretch-moves none-read = omega arith
-stretch-moves {bs = bs} (one-read {p = p} {b = b} {i = i} {k = k} {behind = q} f h s) = omega (arith, moves-on bs p b i k q f .0, stretch-moves s)
+stretch-moves {bs = bs} (one-read {p = p} {b = b} {i = i} {k = k} {next = q} f h s) = omega (arith, moves-on bs p b i k q f .0, stretch-moves s)
 
 -- the kinds of entries before a position are those of the steps
 abbrev pub Same-kinds : Tree → State → (threads kinds : List ℕ) → (position : ℕ) → Type 0
@@ -38,7 +38,7 @@ module _ (t : Tree) (bs : List ℕ) where
       checked (length is + n) t s bs p b ≡ checked n t (state-after s (steps t is s)) bs e l
   unfolding steps state-after kind-numbers
   stretch-passes none-read s f n = let z : 0 + n ≡ n = omega arith in rw z
-  stretch-passes (one-read {p = p} {b = b} {i = i} {k = k} {behind = q} {is = is} g h r) s f n =
+  stretch-passes (one-read {p = p} {b = b} {i = i} {k = k} {next = q} {is = is} g h r) s f n =
       let z : suc (length is) + n ≡ suc (length is + n) = omega arith in
       rw z
       (same-kind t bs (length is + n) s p b i k q g h (f 0 (omega arith)) ∙ stretch-passes r (step t i s .state) (λ j l. f (suc j) (omega arith)) n)
@@ -48,10 +48,10 @@ module _ (t : Tree) (bs : List ℕ) where
       getD ks m 0 ≢ getD (kind-numbers (steps t is s)) m 0 → (n : ℕ) → checked (length is + n) t s bs p b ≡ refusal 26 (position-after m bs p b)
   unfolding steps kind-numbers
   stretch-stops none-read s m h f d n = absurd (omega arith)
-  stretch-stops (one-read {p = p} {b = b} {i = i} {k = k} {behind = q} {is = is} g v r) s zero h f d n =
+  stretch-stops (one-read {p = p} {b = b} {i = i} {k = k} {next = q} {is = is} g v r) s zero h f d n =
       let z : suc (length is) + n ≡ suc (length is + n) = omega arith in
       rw z (other-kind t bs (length is + n) s p b i k q g v d ∙ ap (refusal 26) (sym (position-none 0 bs p b refl)))
-  stretch-stops (one-read {p = p} {b = b} {i = i} {k = k} {behind = q} {is = is} g v r) s (suc m) h f d n =
+  stretch-stops (one-read {p = p} {b = b} {i = i} {k = k} {next = q} {is = is} g v r) s (suc m) h f d n =
       let z : suc (length is) + n ≡ suc (length is + n) = omega arith in
       rw z
       (same-kind t bs (length is + n) s p b i k q g v (f 0 (omega arith))
@@ -72,7 +72,7 @@ module _ (t : Tree) (bs : List ℕ) where
   pub stopped-by : (s : State) (p b n : ℕ) → Stops (t .threads) bs p b n → n ≢ 0 → checked (length bs) t s bs p b ≡ refusal n p
   stopped-by s p b _ for-room z = absurd (z refl)
   stopped-by s p b _ (for-broken f) z = enough t bs (length bs) (suc (length bs)) s p b (omega arith) (omega arith) ∙ broken-entry t bs (length bs) s p b f
-  stopped-by s p b _ (for-thread {i = i} {k = k} {behind = q} f h) z =
+  stopped-by s p b _ (for-thread {i = i} {k = k} {next = q} f h) z =
       enough t bs (length bs) (suc (length bs)) s p b (omega arith) (omega arith) ∙ unknown-thread t bs (length bs) s p b i k q f h
 
   pub ended : (s : State) (p b : ℕ) → length bs ≤ p → checked (length bs) t s bs p b ≡ accepted

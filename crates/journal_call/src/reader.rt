@@ -86,7 +86,7 @@ fn whole_entry(journal: &[u8], position: usize, before: u16, bits: usize) -> Ent
     Entry::Named {
         thread: thread_at(journal, position, before, bits),
         kind: kind_at(journal, position, bits),
-        behind: position + (1 + 2 * (bits % 2) + bits / 2),
+        next: position + (1 + 2 * (bits % 2) + bits / 2),
     }
 }
 
@@ -111,22 +111,22 @@ pub fn read_entry(journal: &[u8], position: usize, before: u16) -> Entry
         0 => Entry::Named {
             thread: before,
             kind: 0,
-            behind: position + 1,
+            next: position + 1,
         },
         1 => Entry::Named {
             thread: two_bytes(journal[position + 1], journal[position + 2]),
             kind: 0,
-            behind: position + 3,
+            next: position + 3,
         },
         2 => Entry::Named {
             thread: before,
             kind: journal[position + 1],
-            behind: position + 2,
+            next: position + 2,
         },
         _ => Entry::Named {
             thread: two_bytes(journal[position + 1], journal[position + 2]),
             kind: journal[position + 3],
-            behind: position + 4,
+            next: position + 4,
         },
     }
 }
@@ -165,17 +165,13 @@ pub fn read_some(
     while count < end {
         let e = read_entry(journal, at, last);
         match e {
-            Entry::Named {
-                thread,
-                kind,
-                behind,
-            } => {
+            Entry::Named { thread, kind, next } => {
                 if known <= (thread as u32) {
                     return stopped(count, at, last, 12);
                 }
                 threads[count] = thread;
                 kinds[count] = kind;
-                at = behind;
+                at = next;
                 last = thread;
                 count += 1;
             }
@@ -199,9 +195,9 @@ pub fn position_after(journal: &[u8], position: usize, before: u16, count: usize
             Entry::Named {
                 thread,
                 kind: _,
-                behind,
+                next,
             } => {
-                at = behind;
+                at = next;
                 last = thread;
                 k += 1;
             }

@@ -78,14 +78,14 @@ module _ (w : TreeWords) (s : LockState) (is b rs : List ℕ) where
             record {
               long = ap length (rows-accepted e) ∙ length-append (rows-of xs) (drop (length (rows-of xs)) rs) ∙ omega (arith, length-drop (length (rows-of xs)) rs, all-long, rows-fit e);
               after = ap (drop (2 * length is)) (rows-accepted e) ∙ drop-at (rows-of xs) (drop (length (rows-of xs)) rs) (2 * length is) all-long ∙ rw all-long;
-              told = all-reported;
+              rows-counted = all-reported;
               refused = λ n. absurd (n e);
             }
         | no n ↦
             record {
               long = ap length (rows-refused n);
               after = ap (drop (2 * length is)) (rows-refused n);
-              told = all-reported;
+              rows-counted = all-reported;
               refused = λ _.
                   record {
                     reply = rw (ne-eqb (refused-by w s is b rs .number) 0 n);
@@ -142,7 +142,7 @@ kinds-join-law w s is js b rs b′ rs′ b″ rs″ e f g =
     let left = left-state w s is b rs e in
     let both : steps t (is ++ js) (s .words) ≡ xs ++ ys = steps-join t is js (s .words) ∙ ap (λ v. xs ++ steps t js (v .words)) (sym left) in
     record {
-      told =
+      rows-joined =
           written-rows w s (is ++ js) b″ rs″ g ∙ ap rows-of both ∙ rows-join xs ys
           ∙ sym (ap (λ v. v ++ rows-of ys) (written-rows w s is b rs e)) ∙ sym (ap (λ v. written w s is b rs ++ v) (written-rows w s′ js b′ rs′ f));
       as-many = all-reported w s (is ++ js) b″ rs″ g ∙ length-append is js ∙ sym (rw (all-reported w s is b rs e, all-reported w s′ js b′ rs′ f));

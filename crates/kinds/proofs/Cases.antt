@@ -21,20 +21,20 @@ use Rattle.model.specs.Answers.{counters-after-run, run-reply, run-buffer}
 use Rattle.model.specs.Cases.Marked.{padded, tree, at-ticket-root, two-homes, first-entries, two-in-root, three-levels, same-numbers, same-places, same-counts, same-state, same-counters, same-lock}
 use Rattle.schedules.specs.Answers.{row-buffer}
 use Rattle.kinds.specs.Answers.{rows-of, bad-kind-room, kind-room-tests, kinds-tests-before-19, kinds-tests, kinds-refusal, kinds-reply, refused-by, kinds-answer, kinds-trace, kinds-rows}
-use Rattle.kinds.specs.Cases.Kinds.{Case, told, refused-from, refused-with, full-entries, cases, answered, holds, all-hold}
+use Rattle.kinds.specs.Cases.Kinds.{Case, accepted-with, refused-from, refused-with, full-entries, cases, answered, holds, all-hold}
 use Rattle.model.proofs.Tests.{and-both}
 use Rattle.model.proofs.Walks.{walked, Sized, zero-from, first-pass, first-meets, formed-by-walks, same-formed, counts-by-walks, above-by-walks, zipped}
 use Rattle.model.proofs.Computing.{far-below, have-room, walked-counter, tests-by, late-tests, same-late, same-lock-formed, state-sized, sized}
 
 -- what refuses a run that reports its steps, given whether its state is well formed; 19 is left out if no counter can exceed its limit
-abbrev refused-telling : Tree → (formed : Bool) → LockState → (schedule : List ℕ) → (room row-room : ℕ) → Refusal
-refused-telling t b s is room n = first-refusal ((tests-by t b (schedule-tests t is ++ room-tests is room) ++ kind-room-tests is n) ++ late-tests t s is)
+abbrev reporting-refusal : Tree → (formed : Bool) → LockState → (schedule : List ℕ) → (room row-room : ℕ) → Refusal
+reporting-refusal t b s is room n = first-refusal ((tests-by t b (schedule-tests t is ++ room-tests is room) ++ kind-room-tests is n) ++ late-tests t s is)
 
 unfoldable walked-refusal : Case → Refusal
 walked-refusal c =
     let t = tree-of (c .words) in
     let s = c .state in
-    refused-telling t (formed-by-walks t (s .words) && counts-by-walks t (s .counters)) s (c .schedule) (length (c .trace)) (length (c .rows))
+    reporting-refusal t (formed-by-walks t (s .words) && counts-by-walks t (s .counters)) s (c .schedule) (length (c .trace)) (length (c .rows))
 
 same-refusal : (c : Case) → length (c .schedule) ≤ 65536 → Sized (c .state .words) → refused-by (c .words) (c .state) (c .schedule) (c .trace) (c .rows) ≡ walked-refusal c
 unfolding walked-refusal refused-by kinds-refusal kinds-tests bad-state
@@ -42,7 +42,7 @@ same-refusal c short h =
     let t = tree-of (c .words) in
     let s = c .state in
     same-late (c .words) s (c .schedule) (kinds-tests-before-19 t s (c .schedule) (length (c .trace)) (length (c .rows))) short
-    ∙ ap (λ b. refused-telling t b s (c .schedule) (length (c .trace)) (length (c .rows)))
+    ∙ ap (λ b. reporting-refusal t b s (c .schedule) (length (c .trace)) (length (c .rows)))
     (same-lock-formed (c .words) s (formed-by-walks t (s .words)) (same-formed t (s .words) h))
 
 unfoldable holds-by-walks : Case → Bool
@@ -83,7 +83,7 @@ unfolding any-below filter-below all-below read-word tree-of is-ticket is-child 
     leave-row check-row help-row cas-row linger-row grant-row draw-row watch-row is-watched shown-members raise-row row step steps state-after how-many
     entering counts-of run-of run good-tail queue-on-path good-place good-counters refusal accepted bad-domains bad-threads bad-parent too-deep no-threshold
     bad-home empty-domain tree-tests bad-length bad-entry bad-room run-reply run-buffer padded tree at-ticket-root two-homes first-entries two-in-root
-    three-levels same-numbers same-places same-counts same-state row-buffer rows-of told refused-from refused-with full-entries cases all-sized
+    three-levels same-numbers same-places same-counts same-state row-buffer rows-of accepted-with refused-from refused-with full-entries cases all-sized
 cases-sized = refl
 
 pub cases-hold : all-hold cases ≡ true
@@ -94,6 +94,6 @@ unfolding zero-from first-pass first-meets counts-by-walks above-by-walks walked
     help-row cas-row linger-row grant-row draw-row watch-row is-watched shown-members raise-row row step steps state-after how-many entering counts-of run-of
     run good-tail queue-on-path good-place good-counters refusal accepted lowest-bad first-refusal bad-domains bad-threads bad-parent too-deep no-threshold
     bad-home empty-domain tree-tests bad-length bad-entry bad-room run-reply run-buffer padded tree at-ticket-root two-homes first-entries two-in-root
-    three-levels same-numbers same-places same-counts same-state same-counters same-lock row-buffer rows-of kinds-reply bad-kind-room told
+    three-levels same-numbers same-places same-counts same-state same-counters same-lock row-buffer rows-of kinds-reply bad-kind-room accepted-with
     refused-from refused-with full-entries cases walked zipped formed-by-walks walked-refusal holds-by-walks all-hold-by-walks
 cases-hold = same-cases cases cases-sized ∙ refl

@@ -1,6 +1,6 @@
 -- The proofs.
 pub mod Refusing
 pub mod Buffers
-pub mod Telling
+pub mod Reporting
 pub mod Cases
 pub mod Witnesses

@@ -75,7 +75,7 @@ pub record Untouched (w : TreeWords) (s : LockState) (schedule trace rows : List
 pub record Keeps-rest (w : TreeWords) (s : LockState) (schedule trace rows : List ℕ) : Type 0 where
   pub long : length (kinds-rows w s schedule trace rows) ≡ length rows
   pub after : drop (2 * length schedule) (kinds-rows w s schedule trace rows) ≡ drop (2 * length schedule) rows
-  pub told : refused-by w s schedule trace rows .number ≡ 0 → kinds-answer w s schedule trace rows .rows ≡ length schedule
+  pub rows-counted : refused-by w s schedule trace rows .number ≡ 0 → kinds-answer w s schedule trace rows .rows ≡ length schedule
   pub refused : refused-by w s schedule trace rows .number ≢ 0 → Untouched w s schedule trace rows
 
 -- for every call
@@ -88,7 +88,7 @@ written w s is b rs = take (2 * kinds-answer w s is b rs .rows) (kinds-rows w s 
 
 -- two calls, the second from the state that the first returns, give the same as one call on the joined schedule
 pub record Calls-join (w : TreeWords) (s s′ : LockState) (schedule schedule′ trace rows trace′ rows′ trace″ rows″ : List ℕ) : Type 0 where
-  pub told : written w s (schedule ++ schedule′) trace″ rows″ ≡ written w s schedule trace rows ++ written w s′ schedule′ trace′ rows′
+  pub rows-joined : written w s (schedule ++ schedule′) trace″ rows″ ≡ written w s schedule trace rows ++ written w s′ schedule′ trace′ rows′
   pub as-many :
       kinds-answer w s (schedule ++ schedule′) trace″ rows″ .rows
       ≡ kinds-answer w s schedule trace rows .rows + kinds-answer w s′ schedule′ trace′ rows′ .rows

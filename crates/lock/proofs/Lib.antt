@@ -1,2 +1,2 @@
 -- Facts that the proofs of the calls share.
-pub mod Telling
+pub mod Reporting

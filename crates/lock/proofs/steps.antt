@@ -4,7 +4,7 @@ pub mod SoFar
 pub mod Typing
 pub mod Turns
 pub mod StepCodes
-pub mod Telling
+pub mod Reporting
 pub mod Answering
 pub mod Starting
 pub mod Above

@@ -12,7 +12,7 @@ use Rattle.model.specs.Answers.{first-kind, first-domain}
 use Rattle.refusals.specs.Arrays.{lent-state}
 use Rattle.refusals.specs.OfRuns.Counts.{counters-in}
 use Rattle.rows.specs.Common.Standing.{row-domain}
-use Rattle.lock.specs.declared.lent.Told.{Told}
+use Rattle.lock.specs.declared.lent.FirstStep.{FirstStep}
 use Rattle.lock.specs.declared.lent.Ran.{Ran}
 
 -- a lock state with these borrowed arrays
@@ -20,7 +20,7 @@ abbrev pub lent-lock : (tails nexts statuses rows domains peers words : List ℕ
 lent-lock ts ns vs rs ds ps ws v g es ms ls = lock-state (lent-state ts ns vs rs ds ps ws v g) (counters-in es ms ls)
 
 -- the kind and domain of a schedule's first step, decoded from its number
-abbrev pub reported-by : (homes schedule : List ℕ) → (code : ℕ) → Told
+abbrev pub reported-by : (homes schedule : List ℕ) → (code : ℕ) → FirstStep
 reported-by hs is v =
     let none = eqb (length is) 0 in
     record { kind = cond none 0 (v % 8); domain = cond none 0 (row-domain (getD hs (getD is 0 0) 0) ((v / 8) % 16) (v / 128)) }

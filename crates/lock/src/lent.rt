@@ -18,22 +18,22 @@ use model::State;
 use model::TreeWords;
 
 // The kind and domain of a step.
-struct Told {
+struct FirstStep {
     pub kind: u32,
     pub domain: u32,
 }
 
 // The first step of a schedule, decoded from what the loop reported; 0 and 0 if there is none.
-fn first_reported(homes: &[u8; 256], schedule: &[u16], code: u16) -> Told
+fn first_reported(homes: &[u8; 256], schedule: &[u16], code: u16) -> FirstStep
     requires { ⌜ (0 < length (now schedule) → getD (now schedule) 0 0 < 256) ⌝ }
     ensures { λ r. ⌜ r ≡ reported-by (now (homes .entry)) (now (schedule .entry)) code ⌝ }
 {
     if schedule.len() == 0 {
-        return Told { kind: 0, domain: 0 };
+        return FirstStep { kind: 0, domain: 0 };
     }
     let at = schedule[0] as usize;
     let domain = run::domain_of_code(homes[at], code);
-    Told {
+    FirstStep {
         kind: (code % 8) as u32,
         domain,
     }
@@ -125,12 +125,12 @@ pub(crate) fn run_tested(
         longest,
     );
     let counts = run::counts_of(&kinds);
-    let told = first_reported(&tree.homes, schedule, codes[0]);
+    let first = first_reported(&tree.homes, schedule, codes[0]);
     Ran {
         number: 0,
         place: 0,
-        kind: told.kind,
-        domain: told.domain,
+        kind: first.kind,
+        domain: first.domain,
         counts,
     }
 }

@@ -17,15 +17,15 @@ next-byte bs at h = rw add-one (drop-cons bs at 0 h)
 -- what is known about a file whose bytes from a position on start with a given byte
 pub record Starts (bs : List ℕ) (at x : ℕ) (ys : List ℕ) : Type 0 where
   pub first : byte bs at ≡ x
-  pub behind : drop (at + 1) bs ≡ ys
+  pub after : drop (at + 1) bs ≡ ys
   pub long : length bs ≡ at + 1 + length ys
 
 pub starts : (bs : List ℕ) (at x : ℕ) (ys : List ℕ) → drop at bs ≡ x ∷ ys → Starts bs at x ys
 starts bs at x ys e =
     let inside : at < length bs = omega (arith, length-drop at bs, ap length e) in
     let both = sym (next-byte bs at inside) ∙ e in
-    let behind : drop (at + 1) bs ≡ ys = cc in
-    record { first = cc; behind = behind; long = omega (arith, length-drop (at + 1) bs, ap length behind) }
+    let after : drop (at + 1) bs ≡ ys = cc in
+    record { first = cc; after = after; long = omega (arith, length-drop (at + 1) bs, ap length after) }
 
 -- a field, and an entry whose map has a meaning, end after their size
 pub field-reached : (bs : List ℕ) (at size : ℕ) → at + size ≤ length bs → field-end bs at size ≡ At (at + size)

@@ -87,7 +87,7 @@ domains-bytes bs (suc k) d at next ps hs a b e =
 -- conversely, entries at a position are read, and their words stored
 pub record Domains-read (bs : List ℕ) (d k at : ℕ) (r : DomainsRead) (given-ps given-hs bytes rest : List ℕ) : Type 0 where
   pub reached : r .reached ≡ At (at + length bytes)
-  pub behind : drop (at + length bytes) bs ≡ rest
+  pub after : drop (at + length bytes) bs ≡ rest
   pub parents-given : (j : ℕ) → d ≤ j → j < d + k → j < 64 → getD (r .parents) j 0 ≡ getD given-ps j 0
   pub thresholds-given : (j : ℕ) → d ≤ j → j < d + k → j < 64 → getD (r .thresholds) j 0 ≡ getD given-hs j 0
 
@@ -99,7 +99,7 @@ unfolding domains-from
 domains-stored bs k d at ps hs gp gh xs rest a b c f (no-domain d′) e =
     record {
       reached = rw add-zero;
-      behind = rw add-zero e;
+      after = rw add-zero e;
       parents-given = λ j l m n. absurd (omega arith);
       thresholds-given = λ j l m n. absurd (omega arith);
     }
@@ -112,12 +112,12 @@ domains-stored bs k d at ps hs gp gh xs rest a b c f (next-domain d′ k′ p h 
     let a2 = stored-length 64 ps d (parent-at bs at) ∙ a in
     let b2 = stored-length 64 hs d (threshold-at bs at) ∙ b in
     let then = domain-then bs k′ d at ps hs n (first .reached) in
-    let others = domains-stored bs k′ (d + 1) n qs is gp gh zs rest a2 b2 c f entries (first .behind) in
+    let others = domains-stored bs k′ (d + 1) n qs is gp gh zs rest a2 b2 c f entries (first .after) in
     let kept = domains-kept bs k′ (d + 1) n qs is d (inl (omega arith)) in
     rw then
     (record {
       reached = others .reached ∙ ap At long;
-      behind = rw long at (others .behind);
+      after = rw long at (others .after);
       parents-given =
           λ j l m o.
           elim (ℕ-discrete j d) [

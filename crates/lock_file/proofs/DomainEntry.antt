@@ -69,7 +69,7 @@ pub record Domain-read (bs : List ℕ) (at p h : ℕ) (bytes rest : List ℕ) : 
   pub reached : domain-end bs at ≡ At (at + length bytes)
   pub parent : parent-at bs at ≡ p
   pub threshold : threshold-at bs at ≡ h
-  pub behind : drop (at + length bytes) bs ≡ rest
+  pub after : drop (at + length bytes) bs ≡ rest
 
 pub domain-fields :
     (bs : List ℕ) (at p h : ℕ) (xs rest : List ℕ) → Domain-entry p h xs → drop at bs ≡ xs ++ rest → Domain-read bs at p h xs rest
@@ -80,39 +80,39 @@ domain-fields bs at p h xs rest no-field e =
       reached = rw (a .first) (entry-reached bs 3 at 1 (omega arith) (omega arith) (omega arith));
       parent = rw (a .first);
       threshold = rw (a .first);
-      behind = a .behind;
+      after = a .after;
     }
 domain-fields bs at p h xs rest (parent-only q) e =
     let a = starts bs at 1 (q ∷ rest) e in
-    let b = starts bs (at + 1) q rest (a .behind) in
+    let b = starts bs (at + 1) q rest (a .after) in
     let z : at + 1 + 1 ≡ at + 2 = omega arith in
     record {
       reached = rw (a .first) (entry-reached bs 3 at 2 (omega arith) (omega arith) (omega arith));
       parent = rw (a .first) (b .first);
       threshold = rw (a .first);
-      behind = rw z at (b .behind);
+      after = rw z at (b .after);
     }
 domain-fields bs at p h xs rest (threshold-only low high) e =
     let a = starts bs at 2 (low ∷ high ∷ rest) e in
-    let b = starts bs (at + 1) low (high ∷ rest) (a .behind) in
-    let c = starts bs (at + 1 + 1) high rest (b .behind) in
+    let b = starts bs (at + 1) low (high ∷ rest) (a .after) in
+    let c = starts bs (at + 1 + 1) high rest (b .after) in
     let y : at + 1 + 0 ≡ at + 1 = omega arith in
     let z : at + 1 + 1 + 1 ≡ at + 3 = omega arith in
     record {
       reached = rw (a .first) (entry-reached bs 3 at 3 (omega arith) (omega arith) (omega arith));
       parent = rw (a .first);
       threshold = rw (a .first, y, b .first, c .first);
-      behind = rw z at (c .behind);
+      after = rw z at (c .after);
     }
 domain-fields bs at p h xs rest (both-fields q low high) e =
     let a = starts bs at 3 (q ∷ low ∷ high ∷ rest) e in
-    let b = starts bs (at + 1) q (low ∷ high ∷ rest) (a .behind) in
-    let c = starts bs (at + 1 + 1) low (high ∷ rest) (b .behind) in
-    let d = starts bs (at + 1 + 1 + 1) high rest (c .behind) in
+    let b = starts bs (at + 1) q (low ∷ high ∷ rest) (a .after) in
+    let c = starts bs (at + 1 + 1) low (high ∷ rest) (b .after) in
+    let d = starts bs (at + 1 + 1 + 1) high rest (c .after) in
     let z : at + 1 + 1 + 1 + 1 ≡ at + 4 = omega arith in
     record {
       reached = rw (a .first) (entry-reached bs 3 at 4 (omega arith) (omega arith) (omega arith));
       parent = rw (a .first) (b .first);
       threshold = rw (a .first, c .first, d .first);
-      behind = rw z at (d .behind);
+      after = rw z at (d .after);
     }

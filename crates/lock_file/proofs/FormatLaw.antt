@@ -178,19 +178,19 @@ read-through bs w is x =
     let domains =
     rw (← count) at
     (domains-stored bs (w .domains - 1) 1 1 (replicate 64 0) (replicate 64 0) (w .parents) (w .thresholds) (x .domain-bytes) _ refl refl
-    (x .room .parents-room) (x .room .thresholds-room) (x .domains-given) (a .behind))
+    (x .room .parents-room) (x .room .thresholds-room) (x .domains-given) (a .after))
     in
     let q = 1 + length (x .domain-bytes) in
-    let b = starts bs q (x .low) _ (domains .behind) in
-    let c = starts bs (q + 1) (x .high) _ (b .behind) in
+    let b = starts bs q (x .low) _ (domains .after) in
+    let c = starts bs (q + 1) (x .high) _ (b .after) in
     let z : q + 1 + 1 ≡ q + 2 = omega arith in
     let counted : two-bytes bs q ≡ w .threads = rw (b .first, c .first) (sym (x .threads-counted)) in
     let threads =
     rw (← counted) at
     (threads-stored bs (w .threads) 0 0 (q + 2) (replicate 256 0) (w .homes) (x .thread-bytes) _ refl (x .room .homes-room) (x .threads-given)
-    (rw z at (c .behind)))
+    (rw z at (c .after)))
     in
-    let schedule = schedule-stored bs (q + 2 + length (x .thread-bytes)) is (x .schedule-bytes) (x .schedule-given) (threads .behind) in
+    let schedule = schedule-stored bs (q + 2 + length (x .thread-bytes)) is (x .schedule-bytes) (x .schedule-given) (threads .after) in
     let same = domains-same bs w (x .domain-bytes) _ count (x .room) domains in
     record {
       at = q;

@@ -36,7 +36,7 @@ pub record Part-bad (read : Part-reader) (bs : List ℕ) (at place : ℕ) : Type
 pub record Part-ended (read : Part-reader) (bs : List ℕ) (at : ℕ) : Type 0 where
   pub end : ℕ
   pub ahead : at ≤ end
-  pub behind : length bs ≤ end
+  pub complete : length bs ≤ end
   pub filled : (cs : List ℕ) → ((j : ℕ) → byte bs j ≡ byte cs j) → end ≤ length cs → read cs at ≡ At end
 
 pub record Part (read : Part-reader) : Type 0 where
@@ -126,7 +126,7 @@ module _
         record {
           end = b .end;
           ahead = omega arith;
-          behind = b .behind;
+          complete = b .complete;
           filled = λ cs same long.
               let before : Same-before middle bs cs = λ j h. same j in
               second-in bs cs at middle (At (b .end)) (a .alike cs before (omega arith)) (given bs cs at middle e before) (b .filled cs same long);
@@ -138,7 +138,7 @@ module _
         let a = first-part .ended bs at e in
         let v = value bs at in
         let a-ahead = a .ahead in
-        let a-after = a .behind in
+        let a-complete = a .complete in
         let value-in : (cs : List ℕ) → ((j : ℕ) → byte bs j ≡ byte cs j) → a .end ≤ length cs → value bs at ≡ value cs at =
         λ cs same long. sym (given cs bs at (a .end) (a .filled cs same long) (λ j h. sym (same j)))
         in
@@ -149,7 +149,7 @@ module _
         record {
           end = next;
           ahead = omega arith;
-          behind = omega arith;
+          complete = omega arith;
           filled = λ cs same long.
               let enough : a .end ≤ length cs = omega arith in
               second-in bs cs at (a .end) (At next) (a .filled cs same enough) (value-in cs same enough) (b .alike cs (λ j h. same j) long);
@@ -160,7 +160,7 @@ module _
         record {
           end = b .end;
           ahead = omega arith;
-          behind = b .behind;
+          complete = b .complete;
           filled = λ cs same long.
               let enough : a .end ≤ length cs = omega arith in
               second-in bs cs at (a .end) (At (b .end)) (a .filled cs same enough) (value-in cs same enough) (b .filled cs same long);
@@ -229,7 +229,7 @@ field-part size positive =
           record {
             end = at + size;
             ahead = omega arith;
-            behind = field-short bs at size e;
+            complete = field-short bs at size e;
             filled = λ cs same long. field-reached cs at size long;
           };
     }
@@ -259,7 +259,7 @@ bad-entry bs largest at size h m = rw (lt-leb (length bs) at h, lt-ltb largest (
 
 record Entry-short (bs : List ℕ) (largest at size : ℕ) : Type 0 where
   meaningful : byte bs at ≤ largest
-  behind : length bs ≤ at + size
+  complete : length bs ≤ at + size
 
 entry-short : (bs : List ℕ) (largest at size : ℕ) → entry-end bs largest at size ≡ Ended → Entry-short bs largest at size
 unfolding entry-end
@@ -270,9 +270,9 @@ entry-short bs largest at size e = by (leb (length bs) at) (ltb largest (byte bs
         cond b Ended (cond c (BadMap at) (field-end bs at size)) ≡ Ended → Entry-short bs largest at size
     by true c t u e =
         let over = leb-true (length bs) at t in
-        record { meaningful = rw (List·getD-eq-default bs 0 over) (omega arith); behind = omega arith }
+        record { meaningful = rw (List·getD-eq-default bs 0 over) (omega arith); complete = omega arith }
     by false true t u e = absurd (bad-not-ended at e)
-    by false false t u e = record { meaningful = ltb-false largest (byte bs at) u; behind = field-short bs at size e }
+    by false false t u e = record { meaningful = ltb-false largest (byte bs at) u; complete = field-short bs at size e }
 
 -- an entry whose size its bit map gives
 module _ (largest : ℕ) (size : (map : ℕ) → ℕ) (positive : (map : ℕ) → 0 < size map) where
@@ -312,7 +312,7 @@ module _ (largest : ℕ) (size : (map : ℕ) → ℕ) (positive : (map : ℕ) �
             record {
               end = at + size (byte bs at);
               ahead = omega arith;
-              behind = w .behind;
+              complete = w .complete;
               filled = λ cs same long. entry-alike bs cs at (same at) (w .meaningful) long;
             };
       }

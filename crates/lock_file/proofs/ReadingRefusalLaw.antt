@@ -142,7 +142,7 @@ odd-beginning bs at e odd =
 short-beginning : (bs : List ℕ) → tree-reader bs 0 ≡ Ended → Beginning bs
 short-beginning bs e =
     let a = tree-part .ended bs 0 e in
-    let behind = a .behind in
+    let complete = a .complete in
     let n = a .end - length bs in
     let cs = bs ++ replicate n 0 in
     let long : length cs ≡ a .end = omega (arith, length-filled bs n) in

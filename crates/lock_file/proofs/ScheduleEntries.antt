@@ -33,9 +33,9 @@ unfolding entries-from
 entries-stored bs at is ss no-entry e = record { doubled = refl; read = refl }
 entries-stored bs at is ss (next-entry low high js ts entries) e =
     let a = starts bs at low (high ∷ ts) e in
-    let b = starts bs (at + 1) high ts (a .behind) in
+    let b = starts bs (at + 1) high ts (a .after) in
     let z : at + 1 + 1 ≡ at + 2 = omega arith in
-    let others = entries-stored bs (at + 2) js ts entries (rw z at (b .behind)) in
+    let others = entries-stored bs (at + 2) js ts entries (rw z at (b .after)) in
     record { doubled = omega arith; read = rw (a .first, b .first, others .read) }
 
 pub record Schedule-read (bs : List ℕ) (at : ℕ) (is : List ℕ) : Type 0 where

@@ -94,7 +94,7 @@ threads-bytes bs (suc k) i before at next hs a e =
 -- conversely, entries at a position are read, and their homes stored
 pub record Threads-read (bs : List ℕ) (i k at : ℕ) (r : ThreadsRead) (given bytes rest : List ℕ) : Type 0 where
   pub reached : r .reached ≡ At (at + length bytes)
-  pub behind : drop (at + length bytes) bs ≡ rest
+  pub after : drop (at + length bytes) bs ≡ rest
   pub homes-given : (j : ℕ) → i ≤ j → j < i + k → j < 256 → getD (r .homes) j 0 ≡ getD given j 0
 
 pub threads-stored :
@@ -102,19 +102,19 @@ pub threads-stored :
     Thread-entries given i k before xs → drop at bs ≡ xs ++ rest → Threads-read bs i k at (threads-from bs k i before at hs) given xs rest
 unfolding threads-from
 threads-stored bs k i before at hs given xs rest a b (no-thread i′ before′) e =
-    record { reached = rw add-zero; behind = rw add-zero e; homes-given = λ j l m n. absurd (omega arith) }
+    record { reached = rw add-zero; after = rw add-zero e; homes-given = λ j l m n. absurd (omega arith) }
 threads-stored bs k i before at hs given xs rest a b (next-thread i′ k′ before′ h ys zs entry hold entries) e =
     let first = thread-fields bs at before h ys (zs ++ rest) entry (rw append-assoc at e) in
     let n = at + length ys in
     let long : n + length zs ≡ at + length (ys ++ zs) = omega (arith, length-append ys zs) in
     let then = rw (first .home) at (thread-then bs k′ i before at hs n (first .reached)) in
     let ms = stored 256 hs i h in
-    let others = threads-stored bs k′ (i + 1) h n ms given zs rest (stored-length 256 hs i h ∙ a) b entries (first .behind) in
+    let others = threads-stored bs k′ (i + 1) h n ms given zs rest (stored-length 256 hs i h ∙ a) b entries (first .after) in
     let kept = threads-kept bs k′ (i + 1) h n ms i (inl (omega arith)) in
     rw then
     (record {
       reached = others .reached ∙ ap At long;
-      behind = rw long at (others .behind);
+      after = rw long at (others .after);
       homes-given =
           λ j l m o.
           elim (ℕ-discrete j i) [

@@ -43,7 +43,7 @@ thread-bytes bs before at next e =
 pub record Thread-read (bs : List ℕ) (at before h : ℕ) (bytes rest : List ℕ) : Type 0 where
   pub reached : thread-end bs at ≡ At (at + length bytes)
   pub home : home-at bs before at ≡ h
-  pub behind : drop (at + length bytes) bs ≡ rest
+  pub after : drop (at + length bytes) bs ≡ rest
 
 pub thread-fields :
     (bs : List ℕ) (at before h : ℕ) (xs rest : List ℕ) → Thread-entry before h xs → drop at bs ≡ xs ++ rest →
@@ -54,14 +54,14 @@ thread-fields bs at before h xs rest (home-before g) e =
     record {
       reached = rw (a .first) (entry-reached bs 1 at 1 (omega arith) (omega arith) (omega arith));
       home = rw (a .first);
-      behind = a .behind;
+      after = a .after;
     }
 thread-fields bs at before h xs rest (home-given f g) e =
     let a = starts bs at 1 (g ∷ rest) e in
-    let b = starts bs (at + 1) g rest (a .behind) in
+    let b = starts bs (at + 1) g rest (a .after) in
     let z : at + 1 + 1 ≡ at + 2 = omega arith in
     record {
       reached = rw (a .first) (entry-reached bs 1 at 2 (omega arith) (omega arith) (omega arith));
       home = rw (a .first) (b .first);
-      behind = rw z at (b .behind);
+      after = rw z at (b .after);
     }

@@ -21,7 +21,7 @@ use Rattle.model.specs.Counters.{lock-state, fresh-counters, each-with-i
 use Rattle.model.specs.Refusals.{Refusal, refusal, accepted, lowest-bad, first-refusal, bad-domains, bad-threads, bad-parent, too-deep, no-threshold, bad-home, empty-domain, tree-tests, bad-length, bad-entry, bad-room, bad-counter, entry-tests, schedule-tests, room-tests, run-refusal}
 use Rattle.model.specs.Answers.{counters-after-run, first-kind, first-domain, step-reply, step-answer, run-reply, run-buffer, run-answer, trace-answer}
 use Rattle.model.specs.Cases.Marked.{padded, tree, at-ticket-root, counters as ticket-counters, two-homes, first-entries, same-numbers, same-places, same-state, same-counters, same-lock, uncounted}
-use Rattle.model.specs.Cases.Counters.{counters, Case, leaves, run-with, step-with, step-leaves, two-below, one-pass, two-leaves, three-leaves, two-watch, cases, buffer, left-so, refused-so, step-so, holds, all-hold, Counter-cases-hold}
+use Rattle.model.specs.Cases.Counters.{counters, Case, leaves, run-with, step-with, step-leaves, two-below, one-pass, two-leaves, three-leaves, two-watch, cases, buffer, counters-are, run-replies, step-replies, holds, all-hold, Counter-cases-hold}
 use Rattle.model.proofs.Tests.{and-both}
 use Rattle.model.proofs.Laws.Form.{fresh-well-formed}
 use Rattle.model.proofs.Walks.{walked, zero-from, first-pass, first-meets, formed-by-walks, same-formed, counts-by-walks, above-by-walks, zipped}
@@ -34,16 +34,16 @@ fresh-refusal t s is n = counted-refusal t true s (schedule-tests t is ++ room-t
 unfoldable holds-by-walks : Case → Bool
 holds-by-walks (leaves w is c) =
     let t = tree-of w in
-    left-so (run-reply (fresh-refusal t (uncounted fresh-words) is (length is)) (uncounted fresh-words) (run t is fresh-words) (counters-after-run t is (uncounted fresh-words))) c
+    counters-are (run-reply (fresh-refusal t (uncounted fresh-words) is (length is)) (uncounted fresh-words) (run t is fresh-words) (counters-after-run t is (uncounted fresh-words))) c
 holds-by-walks (run-with w c is n k p) =
     let t = tree-of w in
     let s = lock-state fresh-words c in
     let r = fresh-refusal t s is n in
-    refused-so k p (run-reply r s (run t is fresh-words) (counters-after-run t is s)) (run-buffer r (buffer n) (run t is fresh-words)) s n
+    run-replies k p (run-reply r s (run t is fresh-words) (counters-after-run t is s)) (run-buffer r (buffer n) (run t is fresh-words)) s n
 holds-by-walks (step-with w is c i k p) =
     let t = tree-of w in
     let s = lock-state (run t is fresh-words .state) c in
-    step-so k p (step-reply (counted-refusal t (formed-by-walks t (s .words)) s (entry-tests t (i ∷ [])) (i ∷ [])) s (steps t (i ∷ []) (s .words)) (counters-after-run t (i ∷ []) s)) s
+    step-replies k p (step-reply (counted-refusal t (formed-by-walks t (s .words)) s (entry-tests t (i ∷ [])) (i ∷ [])) s (steps t (i ∷ []) (s .words)) (counters-after-run t (i ∷ []) s)) s
 holds-by-walks (step-leaves w s i c) =
     let t = tree-of w in
     let l = uncounted s in
@@ -99,5 +99,5 @@ unfolding Counter-cases-hold any-below filter-below all-below read-word tree-of 
     good-count good-counts count-above any-above refusal accepted lowest-bad first-refusal bad-domains bad-threads bad-parent too-deep no-threshold bad-home
     empty-domain tree-tests bad-length bad-entry bad-room bad-counter counters-after-run first-kind first-domain step-reply run-reply run-buffer padded tree
     at-ticket-root two-homes first-entries same-numbers same-places same-state same-counters same-lock counters two-below one-pass two-leaves three-leaves two-watch ticket-counters cases
-    refused-so step-so walked zipped formed-by-walks counts-by-walks zero-from first-pass first-meets above-by-walks walked-counter far-below have-room counted-refusal holds-by-walks all-hold-by-walks
+    run-replies step-replies walked zipped formed-by-walks counts-by-walks zero-from first-pass first-meets above-by-walks walked-counter far-below have-room counted-refusal holds-by-walks all-hold-by-walks
 counter-cases-hold = same-cases cases cases-sized ∙ refl

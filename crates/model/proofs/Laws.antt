@@ -14,4 +14,4 @@ pub mod Search
 pub mod Root
 pub mod Given
 pub mod Counters
-pub mod Telling
+pub mod Reporting

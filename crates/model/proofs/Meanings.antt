@@ -112,7 +112,7 @@ module _ (t : Tree) (valid : Accepted t) where
       let b = best (t .domains) (is-child t d) (λ c. allowance t (256 + c)) (not-false _ e) in
       let ge : (c : ℕ) → c < t .domains → is-child t d c ≡ true → allowance t (256 + c) ≤ largest-below (t .domains) (λ c. cond (is-child t d c) (allowance t (256 + c)) 0) =
       λ c s k. rw k at (largest-ge (t .domains) (λ c. cond (is-child t d c) (allowance t (256 + c)) 0) c s) in (
-        record { child = b .index; real = b .small; hangs = b .passes; largest = λ c s k. rw (b .value) (ge c s k) },
+        record { child = b .index; real = b .small; its-child = b .passes; largest = λ c s k. rw (b .value) (ge c s k) },
         allowance-domain t valid d ∙ rw (e, b .value) refl,
       )
 

@@ -138,8 +138,8 @@ pub one-row :
     (f : Place → Bool) (k : ℕ) → f Invalid ≡ false → parts (shape k) ≡ 0 → ((r d p w : ℕ) → f (shaped (shape r) d p w) ≡ eqb r k) → (q : PlaceWords) →
     eqb (q .row) k && (eqb (q .domain) 0 && (eqb (q .peer) 0 && eqb (q .word) 0)) ≡ f (place-of q)
 unfolding place-of
-one-row f k n none told q =
-    by (eqb (q .row) k) refl ∙ sym (where-fits f n (shaped (shape (q .row)) (q .domain) (q .peer) (q .word)) (eqb (q .row) k) (fits q) (told _ _ _ _))
+one-row f k n none each q =
+    by (eqb (q .row) k) refl ∙ sym (where-fits f n (shaped (shape (q .row)) (q .domain) (q .peer) (q .word)) (eqb (q .row) k) (fits q) (each _ _ _ _))
   where
     by : (b : Bool) → eqb (q .row) k ≡ b → b && (eqb (q .domain) 0 && (eqb (q .peer) 0 && eqb (q .word) 0)) ≡ fits q && b
     by true e = rw (eqb-true (q .row) k e, none) (sym (and-true (eqb (q .domain) 0 && (eqb (q .peer) 0 && eqb (q .word) 0))))

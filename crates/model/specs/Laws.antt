@@ -161,7 +161,7 @@ unfoldable pub Answered-kinds-law : Type 0
 Answered-kinds-law =
     (w : TreeWords) (s : LockState) (is b : List ℕ) → Formed (tree-of w) (s .words) → run-answer w s is b .number ≡ 0 → run-answer w s is b .counts ≡ counts-of-kinds (answered-kinds w is s)
 
--- What document 01 counted as passed, before document 02 told crossed entries apart: an entry from Wait at any domain but the root
+-- What document 01 counted as passed, before document 02 distinguished crossed entries: an entry from Wait at any domain but the root
 unfoldable pub waits-below : Place → Bool
 waits-below p = same-row p (Wait 0) && not (eqb (words-of p .domain) 0)
 
@@ -244,7 +244,7 @@ with-root b t =
 unfoldable pub Root-law : Type 0
 Root-law = (t : Tree) (b : Bool) → tree-refusal (with-root b t) ≡ tree-refusal t
 
--- UNREAD WORDS tell no trees apart: the root's parent and threshold, room that the tree lacks, and which number but 0 names a ticket root
+-- UNREAD WORDS distinguish no trees: the root's parent and threshold, room that the tree lacks, and which number but 0 names a ticket root
 pub record Read-alike (w v : TreeWords) : Type 0 where
   pub domains : v .domains ≡ w .domains
   pub threads : v .threads ≡ w .threads

@@ -39,7 +39,7 @@ Under-law = (t : Tree) → tree-refusal t .number ≡ 0 → (i : ℕ) → i < t 
 pub record Largest-child (t : Tree) (d : ℕ) : Type 0 where
   pub child : ℕ
   pub real : child < t .domains
-  pub hangs : is-child t d child ≡ true
+  pub its-child : is-child t d child ≡ true
   pub largest : (c : ℕ) → c < t .domains → is-child t d c ≡ true → allowance t (256 + c) ≤ allowance t (256 + child)
 
 -- the allowance is 1 for a thread; the threshold for a leaf; and the threshold times the largest allowance of a child domain otherwise

@@ -38,7 +38,7 @@ pub record Same-up-to (domain : ℕ) (t u : Tree) (i : ℕ) : Type 0 where
 
 -- 2. THE SEARCH STOPS AT THE CHILD. What holds of a search that finds the child of a domain on the thread's path and stops there
 pub record Leaves-at-child (look : Tree → (thread domain : ℕ) → Found) (t : Tree) (i l : ℕ) : Type 0 where
-  pub hangs : is-child t l (look t i l .child) ≡ true
+  pub its-child : is-child t l (look t i l .child) ≡ true
   pub there : on-path t i (look t i l .child) ≡ true
   -- it looks at exactly the domains from the home up to the child, both included
   pub exactly : look t i l .looked + depth t (look t i l .child) ≡ depth t (t .home i) + 1

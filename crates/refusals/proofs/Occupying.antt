@@ -216,9 +216,9 @@ module _ (w : TreeWords) (valid : Accepted (tree-of w)) where
             let c = any-one (w .domains) (is-child (tree-of w) d) (not-false _ e) in
             let f = child-facts (tree-of w) d (c .index) (c .holds) in
             let lower = valid .parent-lower (c .index) (f .no-root) (c .below) in
-            let there = higher (c .index) (omega (arith, f .hangs)) (c .below) in
+            let there = higher (c .index) (omega (arith, f .its-child)) (c .below) in
             let up = on-path-parent (tree-of w) valid (there .thread) (there .real) (c .index) (f .no-root) (sym (under-domain (tree-of w) (c .index) (there .thread)) ∙ there .below) in
-            record { thread = there .thread; real = there .real; below = under-domain (tree-of w) d (there .thread) ∙ ap (λ x. on-path (tree-of w) (there .thread) x) (sym (f .hangs)) ∙ up }
+            record { thread = there .thread; real = there .real; below = under-domain (tree-of w) d (there .thread) ∙ ap (λ x. on-path (tree-of w) (there .thread) x) (sym (f .its-child)) ∙ up }
 
     pub none-empty : Lowest (w .domains) (empty-domain (tree-of w)) (w .domains)
     none-empty = none-bad (w .domains) (empty-domain (tree-of w)) (λ d l. one-there (tree-of w) d (below-from (w .domains) d (omega arith) l))

@@ -2,7 +2,7 @@
 ghost use mathlib.Core.Path.{_≡_};
 ghost use Rattle.kinds.specs.Answers.{kinds-answer, kinds-trace, kinds-rows};
 
-mod telling;
+mod reporting;
 
 use kinds::KindsReply;
 use model::Counters;
@@ -35,7 +35,7 @@ pub fn run_kinds(
     let mut entries = state.counters.entries;
     let mut tenures = state.counters.tenures;
     let mut longest = state.counters.longest;
-    let r = telling::run_reported(
+    let r = reporting::run_reported(
         tree,
         &mut tails,
         &mut nexts,

@@ -100,9 +100,9 @@ module _ (w : TreeWords) (ns es b : List ℕ) where
       let a = rows-accepted w ns es b e in
       record {
         long = ap length a ∙ simp (length-append, length-drop) (omega (arith, length-rows, g .fits));
-        behind = ap (drop (8 * length ns)) a ∙ drop-at xs (drop (length xs) b) (8 * length ns) length-rows ∙ rw length-rows;
+        after = ap (drop (8 * length ns)) a ∙ drop-at xs (drop (length xs) b) (8 * length ns) length-rows ∙ rw length-rows;
         refused = λ n. absurd (n e);
-        told = λ _. rw (eq-eqb (many-refusal (tree-of w) ns (length es) (length b) .number) 0 e);
+        rows-counted = λ _. rw (eq-eqb (many-refusal (tree-of w) ns (length es) (length b) .number) 0 e);
         none-reported = λ n. absurd (n e);
       }
 
@@ -112,9 +112,9 @@ module _ (w : TreeWords) (ns es b : List ℕ) where
       let a = rows-refused w ns es b n in
       record {
         long = ap length a;
-        behind = ap (drop (8 * length ns)) a;
+        after = ap (drop (8 * length ns)) a;
         refused = λ _. a;
-        told = λ e. absurd (n e);
+        rows-counted = λ e. absurd (n e);
         none-reported = λ _. rw (ne-eqb (many-answer w ns es b .number) 0 n);
       }
 

@@ -75,9 +75,9 @@ Row-law =
 -- 4. THE BUFFER keeps its length and what is after the rows; a refused call changes nothing in it. The reply reports how many rows are at its front
 pub record Keeps-rest (w : TreeWords) (lengths entries buffer : List ℕ) : Type 0 where
   pub long : length (rows-answer w lengths entries buffer) ≡ length buffer
-  pub behind : drop (8 * length lengths) (rows-answer w lengths entries buffer) ≡ drop (8 * length lengths) buffer
+  pub after : drop (8 * length lengths) (rows-answer w lengths entries buffer) ≡ drop (8 * length lengths) buffer
   pub refused : many-answer w lengths entries buffer .number ≢ 0 → rows-answer w lengths entries buffer ≡ buffer
-  pub told : many-answer w lengths entries buffer .number ≡ 0 → many-reply w lengths entries buffer .rows ≡ length lengths
+  pub rows-counted : many-answer w lengths entries buffer .number ≡ 0 → many-reply w lengths entries buffer .rows ≡ length lengths
   pub none-reported : many-answer w lengths entries buffer .number ≢ 0 → many-reply w lengths entries buffer .rows ≡ 0
 
 -- for every call

@@ -38,21 +38,21 @@ numeral-one (numeral {b = a} {bs = xs} lo hi h) (numeral {b = d} {bs = ys} lo2 h
 
 -- what a text begins with
 record Opens (bytes : List ℕ) : Type 0 where
-  pub behind : List ℕ
-  pub opens : bytes ≡ 40 ∷ behind
+  pub after : List ℕ
+  pub opens : bytes ≡ 40 ∷ after
 
 tree-opens : {k : ℕ} {bytes : List ℕ} {t : Shape} → Tree-text k bytes t → Opens bytes
-tree-opens (leaf-text {xs = xs} e x) = record { behind = 35 ∷ (xs ++ (41 ∷ [])); opens = e }
-tree-opens (inner-text {xs = xs} e x) = record { behind = xs ++ (41 ∷ []); opens = e }
+tree-opens (leaf-text {xs = xs} e x) = record { after = 35 ∷ (xs ++ (41 ∷ [])); opens = e }
+tree-opens (inner-text {xs = xs} e x) = record { after = xs ++ (41 ∷ []); opens = e }
 
 record Begins (bytes : List ℕ) : Type 0 where
   pub first : ℕ
-  pub behind : List ℕ
-  pub begins : bytes ≡ first ∷ behind
+  pub after : List ℕ
+  pub begins : bytes ≡ first ∷ after
   pub digit : 49 ≤ first
 
 numeral-begins : {xs : List ℕ} {n : ℕ} → Numeral xs n → (ys : List ℕ) → Begins (xs ++ ys)
-numeral-begins (numeral {b} {bs} lo hi h) ys = record { first = b; behind = bs ++ ys; begins = refl; digit = lo }
+numeral-begins (numeral {b} {bs} lo hi h) ys = record { first = b; after = bs ++ ys; begins = refl; digit = lo }
 
 list-begins : {k : ℕ} {bytes : List ℕ} {es : Domains} → Domains-text k bytes es → Begins bytes
 list-begins (last-text {ys = ys} e x f y) = rw e (numeral-begins x ys)
@@ -73,7 +73,7 @@ leaf-inner :
     Domains-text k ys es → ps ++ x ≡ qs ++ y → C
 leaf-inner {ps = ps} {qs} {ys} xs x y p q b e =
     let g = list-begins b in
-    let whole : 40 ∷ 35 ∷ ((xs ++ (41 ∷ [])) ++ x) ≡ 40 ∷ (g .first ∷ ((g .behind ++ (41 ∷ [])) ++ y)) =
+    let whole : 40 ∷ 35 ∷ ((xs ++ (41 ∷ [])) ++ x) ≡ 40 ∷ (g .first ∷ ((g .after ++ (41 ∷ [])) ++ y)) =
     ap (λ l. l ++ x) (sym p) ∙ e ∙ ap (λ l. l ++ y) (q ∙ ap (λ l. 40 ∷ (l ++ (41 ∷ []))) (g .begins)) in
     let same : 35 ≡ g .first = cc in
     absurd (omega (arith, g .digit))
@@ -94,10 +94,10 @@ domain-domain :
 domain-domain {xs = xs} {ys} {us} {vs} x y a t b u e ih =
     let o = tree-opens t in
     let q = tree-opens u in
-    let open-us : us ++ x ≡ 40 ∷ (o .behind ++ x) = ap (λ l. l ++ x) (o .opens) in
-    let open-vs : vs ++ y ≡ 40 ∷ (q .behind ++ y) = ap (λ l. l ++ y) (q .opens) in
+    let open-us : us ++ x ≡ 40 ∷ (o .after ++ x) = ap (λ l. l ++ x) (o .opens) in
+    let open-vs : vs ++ y ≡ 40 ∷ (q .after ++ y) = ap (λ l. l ++ y) (q .opens) in
     let r =
-    numeral-one a b 40 40 (o .behind ++ x) (q .behind ++ y) (lit< tt) (lit< tt)
+    numeral-one a b 40 40 (o .after ++ x) (q .after ++ y) (lit< tt) (lit< tt)
     (ap (λ l. xs ++ l) (sym open-us) ∙ e ∙ ap (λ l. ys ++ l) open-vs) in
     (r .0, ih (open-us ∙ r .1 ∙ sym open-vs))
 

@@ -17,7 +17,7 @@ use Rattle.model.proofs.Refusing.{test-skipped}
 use Rattle.model.proofs.Trees.Accepted.{child-facts}
 use Rattle.model.proofs.Trees.Reading.{read-in}
 use Rattle.text_tree.specs.Grammar.{Shape, Text, root-laid, laid-out, domains-in, threads-in, in-room, words-of}
-use Rattle.text_tree.specs.TextLaws.{Accepted-law, Lived-in, Passes, Passes-law}
+use Rattle.text_tree.specs.TextLaws.{Accepted-law, Has-threads, Passes, Passes-law}
 use Rattle.text_tree.proofs.Laying.{Agrees}
 use Rattle.text_tree.proofs.Blocks.{Up, arrived, step-up, Lives, Block}
 use Rattle.text_tree.proofs.Shapes.{tree-block}
@@ -98,13 +98,13 @@ module _ (t : Tree) (g : ℕ → ℕ) (b : Block (t .parent) g (t .home) 0 0 1 (
       none true e =
           let found = any-one (t .domains) (is-child t (t .home i)) e in
           let child = child-facts t (t .home i) (found .index) (found .holds) in
-          absurd (b .homes-childless i (found .index) (omega arith) h (child .no-root) (found .below) (child .hangs))
+          absurd (b .homes-childless i (found .index) (omega arith) h (child .no-root) (found .below) (child .its-child))
 
   homes-pass : (i : ℕ) → i < t .threads → bad-home t i ≡ false
   unfolding bad-home
   homes-pass i h = rw (lt-leb (t .domains) (t .home i) (b .homes-within i (omega arith) h .1), leaf-pass i h)
 
-  lives-there : (d : ℕ) → Lives (t .parent) (t .home) d 0 (t .threads) 5 → Lived-in t d
+  lives-there : (d : ℕ) → Lives (t .parent) (t .home) d 0 (t .threads) 5 → Has-threads t d
   unfolding under on-path
   lives-there d r =
       let far : 256 ≤ 256 + d = omega arith in
@@ -112,15 +112,15 @@ module _ (t : Tree) (g : ℕ → ℕ) (b : Block (t .parent) g (t .home) 0 0 1 (
       record {
         thread = r .thread;
         of-tree = r .before;
-        lives = rw (le-ltb (256 + d) 256 far, z) (up-meets t (r .up) 6 (omega (arith, r .few)));
+        below = rw (le-ltb (256 + d) 256 far, z) (up-meets t (r .up) 6 (omega (arith, r .few)));
       }
 
-  lived : (d : ℕ) → d < t .domains → Lived-in t d
+  lived : (d : ℕ) → d < t .domains → Has-threads t d
   lived d h = lives-there d (by-root d (λ e. rw e (b .lived-top)) (λ l. b .lived d l h))
 
   empty-pass : (d : ℕ) → d < t .domains → empty-domain t d ≡ false
   unfolding empty-domain
-  empty-pass d h = let x = lived d h in rw (any-found (t .threads) (under t (256 + d)) (x .thread) (x .of-tree) (x .lives))
+  empty-pass d h = let x = lived d h in rw (any-found (t .threads) (under t (256 + d)) (x .thread) (x .of-tree) (x .below))
 
   all-pass : tree-refusal t ≡ accepted
   unfolding tree-refusal tree-tests
@@ -134,7 +134,7 @@ module _ (t : Tree) (g : ℕ → ℕ) (b : Block (t .parent) g (t .home) 0 0 1 (
   block-passes =
       record {
         tests = all-pass;
-        lived-in = lived;
+        has-threads = lived;
       }
 
 -- THE WORDS OF A TEXT

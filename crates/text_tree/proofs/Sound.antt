@@ -45,8 +45,8 @@ Moves-to (stuck p) u = Unit
 Moves-to (to q) u = Reaches q u
 
 -- a byte that was read, grouped with the bytes before it
-behind : (u : List ℕ) (b : ℕ) (rest : List ℕ) → Some-text (u ++ (b ∷ rest)) → Some-text ((u ++ (b ∷ [])) ++ rest)
-behind u b rest s = rw (append-assoc u (b ∷ []) rest) s
+byte-read : (u : List ℕ) (b : ℕ) (rest : List ℕ) → Some-text (u ++ (b ∷ rest)) → Some-text ((u ++ (b ∷ [])) ++ rest)
+byte-read u b rest s = rw (append-assoc u (b ∷ []) rest) s
 
 regroup : (xs ys zs rest : List ℕ) → (xs ++ (ys ++ (32 ∷ zs))) ++ (41 ∷ rest) ≡ xs ++ (ys ++ (32 ∷ (zs ++ (41 ∷ rest))))
 regroup xs ys zs rest = simp append-assoc
@@ -56,7 +56,7 @@ module _ (u : List ℕ) (d : ℕ) (ds : List ℕ) (p : ℕ) (w : TreeWords) wher
   open-count : Reaches (opened d ds p w) u → Reaches (count-due d ds (p + 1) w) (u ++ (35 ∷ []))
   open-count r = (
     r .0,
-    λ xs z n x rest. behind u 35 (xs ++ (41 ∷ z))
+    λ xs z n x rest. byte-read u 35 (xs ++ (41 ∷ z))
         (rw (append-assoc xs (41 ∷ []) z) at (r .1 (5 - length ds) (35 ∷ (xs ++ (41 ∷ []))) z (leaf n) (omega (arith, r .0)) (leaf-text refl x) rest)),
   )
 
@@ -69,21 +69,21 @@ module _ (u : List ℕ) (d : ℕ) (ds : List ℕ) (p : ℕ) (w : TreeWords) wher
   begin-count : (b : ℕ) → 49 ≤ b → b ≤ 57 → Reaches (count-due d ds p w) u → Reaches (in-count (b - 48) d ds (p + 1) w) (u ++ (b ∷ []))
   begin-count b lo hi r = (
     r .0,
-    λ xs z x rest. behind u b (xs ++ (41 ∷ z)) (r .1 (b ∷ xs) z (value-from 0 (b ∷ xs)) (numeral lo hi x) rest),
+    λ xs z x rest. byte-read u b (xs ++ (41 ∷ z)) (r .1 (b ∷ xs) z (value-from 0 (b ∷ xs)) (numeral lo hi x) rest),
   )
 
   go-on-count : (n m b : ℕ) → 48 ≤ b → b ≤ 57 → Reaches (in-count n d ds p w) u → Reaches (in-count m d ds (p + 1) w) (u ++ (b ∷ []))
-  go-on-count n m b lo hi r = (r .0, λ xs z x rest. behind u b (xs ++ (41 ∷ z)) (r .1 (b ∷ xs) z (next-digit lo hi x) rest))
+  go-on-count n m b lo hi r = (r .0, λ xs z x rest. byte-read u b (xs ++ (41 ∷ z)) (r .1 (b ∷ xs) z (next-digit lo hi x) rest))
 
   close-count : (n : ℕ) (v : TreeWords) → Reaches (in-count n d ds p w) u → Reaches (closed ds (p + 1) v) (u ++ (41 ∷ []))
-  close-count n v r = (r .0, λ z rest. behind u 41 z (r .1 [] z no-digit rest))
+  close-count n v r = (r .0, λ z rest. byte-read u 41 z (r .1 [] z no-digit rest))
 
   -- a domain that begins with a digit, and what follows it
   begin-threshold : (b : ℕ) → 49 ≤ b → b ≤ 57 → Reaches (domain-due d ds p w) u → Reaches (in-threshold (b - 48) d ds (p + 1) w) (u ++ (b ∷ []))
   begin-threshold b lo hi r = (
     omega arith,
     r .0,
-    λ k xs ys z t x f l tree rest. behind u b (xs ++ (ys ++ z)) (any-rest k xs ys z t x (rw (first-value b xs) f) l tree rest),
+    λ k xs ys z t x f l tree rest. byte-read u b (xs ++ (ys ++ z)) (any-rest k xs ys z t x (rw (first-value b xs) f) l tree rest),
   )
     where
       any-rest :
@@ -101,27 +101,27 @@ module _ (u : List ℕ) (d : ℕ) (ds : List ℕ) (p : ℕ) (w : TreeWords) wher
   go-on-threshold h b lo hi f r = (
     f,
     r .1,
-    λ k xs ys z t x g l tree rest. behind u b (xs ++ (ys ++ z)) (r .2 k (b ∷ xs) ys z t (next-digit lo hi x) (unfold value-from in g) l tree rest),
+    λ k xs ys z t x g l tree rest. byte-read u b (xs ++ (ys ++ z)) (r .2 k (b ∷ xs) ys z t (next-digit lo hi x) (unfold value-from in g) l tree rest),
   )
 
   open-domain :
       (h n : ℕ) (v : TreeWords) → Reaches (in-threshold h d ds p w) u → Reaches (opened n (d ∷ ds) (p + 1) v) (u ++ (40 ∷ []))
   open-domain h n v r = (
     omega (arith, r .1),
-    λ k ys z t l tree rest. behind u 40 (ys ++ z) (r .2 k [] (40 ∷ ys) z t no-digit (unfold value-from in r .0) (omega arith) tree rest),
+    λ k ys z t l tree rest. byte-read u 40 (ys ++ z) (r .2 k [] (40 ∷ ys) z t no-digit (unfold value-from in r .0) (omega arith) tree rest),
   )
 
   next-domain : Reaches (closed (d ∷ ds) p w) u → Reaches (domain-due d ds (p + 1) w) (u ++ (32 ∷ []))
   next-domain r = (
     omega (arith, r .0),
-    λ k x z es l list rest. behind u 32 (x ++ (41 ∷ z)) (r .1 (32 ∷ (x ++ (41 ∷ z))) (goes-on l list rest)),
+    λ k x z es l list rest. byte-read u 32 (x ++ (41 ∷ z)) (r .1 (32 ∷ (x ++ (41 ∷ z))) (goes-on l list rest)),
   )
 
   close-list : Reaches (closed (d ∷ ds) p w) u → Reaches (closed ds (p + 1) w) (u ++ (41 ∷ []))
-  close-list r = (omega (arith, r .0), λ z rest. behind u 41 z (r .1 (41 ∷ z) (closes rest)))
+  close-list r = (omega (arith, r .0), λ z rest. byte-read u 41 z (r .1 (41 ∷ z) (closes rest)))
 
 open-root : (u : List ℕ) → Reaches at-start u → Reaches (opened 0 [] 1 root-words) (u ++ (40 ∷ []))
-open-root u r = (lit≤ tt, λ k ys z t l tree rest. behind u 40 (ys ++ z) (only k ys z t l tree rest))
+open-root u r = (lit≤ tt, λ k ys z t l tree rest. byte-read u 40 (ys ++ z) (only k ys z t l tree rest))
   where
     only : (k : ℕ) (ys z : List ℕ) (t : Shape) → 0 + k ≡ 5 → Tree-text k (40 ∷ ys) t → Rest 0 z → Some-text (u ++ (40 ∷ (ys ++ z)))
     only k ys z t l tree at-end =

@@ -75,15 +75,15 @@ unfoldable pub Refused-law : Type 0
 Refused-law = (bytes : List ℕ) → Refuses-exactly bytes
 
 -- 4. NOTHING ELSE REFUSES. A domain has a thread under it
-pub record Lived-in (t : Tree) (domain : ℕ) : Type 0 where
+pub record Has-threads (t : Tree) (domain : ℕ) : Type 0 where
   pub thread : ℕ
   pub of-tree : thread < t .threads
-  pub lives : under t (256 + domain) thread ≡ true
+  pub below : under t (256 + domain) thread ≡ true
 
 -- the tree passes the tests of a fresh lock, and every domain has a thread under it
 pub record Passes (t : Tree) : Type 0 where
   pub tests : tree-refusal t ≡ accepted
-  pub lived-in : (d : ℕ) → d < t .domains → Lived-in t d
+  pub has-threads : (d : ℕ) → d < t .domains → Has-threads t d
 
 -- this holds for the tree of every accepted text
 unfoldable pub Passes-law : Type 0

@@ -9,7 +9,7 @@ use lib.Dec.{lit<}
 use lib.ListN.{length, getD}
 use Rattle.model.specs.declared.TreeWords.{TreeWords}
 use Rattle.text_tree_call.specs.declared.Reached.{Reached}
-use Rattle.text_tree_call.specs.declared.Reached.the-variants.{Behind, Stuck}
+use Rattle.text_tree_call.specs.declared.Reached.the-variants.{After, Stuck}
 use Rattle.text_tree_call.specs.declared.Reading.{Reading}
 use Rattle.text_tree_call.specs.declared.Next.{Next}
 use Rattle.text_tree_call.specs.declared.Next.the-variants.{Due, Over}
@@ -67,7 +67,7 @@ module _ (bs : List ℕ) (at : ℕ) (w : TreeWords) (d : ℕ) (r : Number) (read
       record { same = λ ds. read .same d ds w ∙ ap (counted bs d ds w) e ∙ count-stuck bs end d ds w n (stop .1) k; within = tt }
 
   pub leaf-closed :
-      (end n : ℕ) → r ≡ Value end n → getD bs end 0 ≡ 41 → Leaf-read bs at w d (reading (Behind (end + 1)) (threads-added w d n))
+      (end n : ℕ) → r ≡ Value end n → getD bs end 0 ≡ 41 → Leaf-read bs at w d (reading (After (end + 1)) (threads-added w d n))
   leaf-closed end n e k =
       let stop : Count-stopped bs at (Value end n) = rw e at (read .stopped) in
       let there = byte-in-text bs end 41 (lit< tt) k in
@@ -87,7 +87,7 @@ module _ (bs : List ℕ) (at : ℕ) (w : TreeWords) (d : ℕ) (r : Number) (read
       record { same = λ ds. read .same d ds w ∙ ap (measured bs d ds w) e ∙ threshold-stuck bs end d ds w h (stop .1) k; within = tt }
 
   pub begin-opens :
-      (end h : ℕ) → r ≡ Value end h → getD bs end 0 ≡ 40 → Begun bs at w d (reading (Behind (end + 1)) (domain-added w d h))
+      (end h : ℕ) → r ≡ Value end h → getD bs end 0 ≡ 40 → Begun bs at w d (reading (After (end + 1)) (domain-added w d h))
   begin-opens end h e k =
       let stop : Threshold-stopped bs at (Value end h) = rw e at (read .stopped) in
       let there = byte-in-text bs end 40 (lit< tt) k in
@@ -106,19 +106,19 @@ module _ (bs : List ℕ) (r : Reached) where
   pub follows-stuck : (p : ℕ) → r ≡ Stuck p → Followed bs r (Over (Stuck p))
   follows-stuck p e = record { same = λ d ds w. ap (resumed bs (d ∷ ds) w) e; further = λ at h. tt }
 
-  module _ (end : ℕ) (e : r ≡ Behind end) where
+  module _ (end : ℕ) (e : r ≡ After end) where
     pub follows-due : getD bs end 0 ≡ 32 → Followed bs r (Due (end + 1))
     follows-due k =
         record {
           same = λ d ds w. ap (resumed bs (d ∷ ds) w) e ∙ closed-space bs end d ds w k;
-          further = λ at h. let b : Within bs at (Behind end) = rw e at h in (omega (arith, b .0), omega (arith, byte-in-text bs end 32 (lit< tt) k));
+          further = λ at h. let b : Within bs at (After end) = rw e at h in (omega (arith, b .0), omega (arith, byte-in-text bs end 32 (lit< tt) k));
         }
 
-    pub follows-closed : getD bs end 0 ≡ 41 → Followed bs r (Over (Behind (end + 1)))
+    pub follows-closed : getD bs end 0 ≡ 41 → Followed bs r (Over (After (end + 1)))
     follows-closed k =
         record {
           same = λ d ds w. ap (resumed bs (d ∷ ds) w) e ∙ closed-again bs end d ds w k;
-          further = λ at h. let b : Within bs at (Behind end) = rw e at h in (omega (arith, b .0), omega (arith, byte-in-text bs end 41 (lit< tt) k));
+          further = λ at h. let b : Within bs at (After end) = rw e at h in (omega (arith, b .0), omega (arith, byte-in-text bs end 41 (lit< tt) k));
         }
 
     pub follows-wrong : getD bs end 0 ≢ 32 → getD bs end 0 ≢ 41 → Followed bs r (Over (Stuck end))
@@ -126,7 +126,7 @@ module _ (bs : List ℕ) (r : Reached) where
         record { same = λ d ds w. ap (resumed bs (d ∷ ds) w) e ∙ closed-stuck bs end d ds w k l; further = λ at h. tt }
 
 later : (bs : List ℕ) (at from : ℕ) (r : Reached) → at ≤ from → Within bs from r → Within bs at r
-later bs at from (Behind end) l h = (omega (arith, h .0), h .1)
+later bs at from (After end) l h = (omega (arith, h .0), h .1)
 later bs at from (Stuck p) l h = tt
 
 -- A DOMAIN
@@ -160,7 +160,7 @@ module _ (bs : List ℕ) (start : ℕ) (before : TreeWords) (d left at : ℕ) (w
   list-stuck p v e =
       record { same = λ ds l. here .same ds l ∙ begun .same ds ∙ ap (inside bs (new-number (w .domains)) d ds (b .tree)) e; within = tt }
 
-  module _ (open-at : ℕ) (e : b .reached ≡ Behind open-at) (r : Reading) (read : Domain-read bs open-at (b .tree) (new-number (w .domains)) left r) (f : Next) (next : Followed bs (r .reached) f) where
+  module _ (open-at : ℕ) (e : b .reached ≡ After open-at) (r : Reading) (read : Domain-read bs open-at (b .tree) (new-number (w .domains)) left r) (f : Next) (next : Followed bs (r .reached) f) where
     -- from the list's start to after the domain
     list-same :
         (ds : List ℕ) → length ds + left ≡ 4 → from bs start (domain-due d ds start before) ≡ followed bs d ds (r .tree) f
@@ -170,7 +170,7 @@ module _ (bs : List ℕ) (start : ℕ) (before : TreeWords) (d left at : ℕ) (w
 
     list-further : Further bs at f
     list-further =
-        let k : Within bs at (Behind open-at) = rw e at (begun .within) in
+        let k : Within bs at (After open-at) = rw e at (begun .within) in
         next .further at (later bs at open-at (r .reached) (k .0) (read .within))
 
     pub list-due : (due : ℕ) → f ≡ Due due → Due-again bs start before d left due (r .tree)

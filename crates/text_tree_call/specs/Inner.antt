@@ -6,7 +6,7 @@ use Prim.Native.Nat.{ℕ, _+_, _≤_, _<_}
 use lib.ListN.{length, drop, getD}
 use Rattle.model.specs.declared.TreeWords.{TreeWords}
 use Rattle.text_tree_call.specs.declared.Reached.{Reached}
-use Rattle.text_tree_call.specs.declared.Reached.the-variants.{Behind, Stuck}
+use Rattle.text_tree_call.specs.declared.Reached.the-variants.{After, Stuck}
 use Rattle.text_tree_call.specs.declared.Reading.{Reading}
 use Rattle.text_tree_call.specs.declared.Next.{Next}
 use Rattle.text_tree_call.specs.declared.Next.the-variants.{Due, Over}
@@ -63,12 +63,12 @@ pub record Threshold-read (bytes : List ℕ) (at : ℕ) (r : Number) : Type 0 wh
 
 -- DOMAINS. The result after a domain, given those above it
 abbrev pub resumed : (bytes : List ℕ) → (above : List ℕ) → TreeWords → Reached → Outcome
-resumed bs ds w (Behind end) = from bs end (closed ds end w)
+resumed bs ds w (After end) = from bs end (closed ds end w)
 resumed bs ds w (Stuck p) = leaves p
 
 -- a reading ends no earlier than it starts, and within the text
 abbrev pub Within : (bytes : List ℕ) → (at : ℕ) → Reached → Type 0
-Within bs at (Behind end) = (at ≤ end) × (end ≤ length bs)
+Within bs at (After end) = (at ≤ end) × (end ≤ length bs)
 Within bs at (Stuck p) = Unit
 
 -- the thread count of a leaf is read
@@ -78,7 +78,7 @@ pub record Leaf-read (bytes : List ℕ) (at : ℕ) (w : TreeWords) (domain : ℕ
 
 -- the result after the opening parenthesis of a domain
 abbrev pub inside : (bytes : List ℕ) → (number parent : ℕ) → (above : List ℕ) → TreeWords → Reached → Outcome
-inside bs n p ds w (Behind end) = from bs end (opened n (p ∷ ds) end w)
+inside bs n p ds w (After end) = from bs end (opened n (p ∷ ds) end w)
 inside bs n p ds w (Stuck q) = leaves q
 
 -- a threshold and an opening parenthesis are read

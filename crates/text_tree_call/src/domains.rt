@@ -41,7 +41,7 @@ fn read_leaf(text: &[u8], at: usize, tree: TreeWords, domain: u8) -> Reading
             }
             let with_threads = add_threads(tree, domain, count);
             Reading {
-                reached: Reached::Behind(end + 1),
+                reached: Reached::After(end + 1),
                 tree: with_threads,
             }
         }
@@ -58,16 +58,16 @@ fn begin_domain(text: &[u8], at: usize, tree: TreeWords, parent: u8) -> Reading
             reached: Reached::Stuck(p),
             tree,
         },
-        Number::Value(behind, threshold) => {
-            if byte_at(text, behind) != b'(' {
+        Number::Value(number_end, threshold) => {
+            if byte_at(text, number_end) != b'(' {
                 return Reading {
-                    reached: Reached::Stuck(behind),
+                    reached: Reached::Stuck(number_end),
                     tree,
                 };
             }
             let with_domain = add_domain(tree, parent, narrow(threshold));
             Reading {
-                reached: Reached::Behind(behind + 1),
+                reached: Reached::After(number_end + 1),
                 tree: with_domain,
             }
         }
@@ -80,13 +80,13 @@ fn follow(text: &[u8], reached: Reached) -> Next
 {
     match reached {
         Reached::Stuck(p) => Next::Over(Reached::Stuck(p)),
-        Reached::Behind(end) => {
+        Reached::After(end) => {
             let b = byte_at(text, end);
             if b == b' ' {
                 return Next::Due(end + 1);
             }
             if b == b')' {
-                return Next::Over(Reached::Behind(end + 1));
+                return Next::Over(Reached::After(end + 1));
             }
             Next::Over(Reached::Stuck(end))
         }
@@ -127,7 +127,7 @@ fn read_list(text: &[u8], start: usize, before: TreeWords, domain: u8, left: usi
                     tree,
                 };
             }
-            Reached::Behind(inside) => {
+            Reached::After(inside) => {
                 let read = read_domain(text, inside, with_domain, number, left);
                 let reached = read.reached;
                 tree = read.tree;

@@ -10,7 +10,7 @@ use text_tree::TextReply;
 
 // How far reading a domain came: after it, or to a byte with which no text continues.
 pub(crate) enum Reached {
-    Behind(usize),
+    After(usize),
     Stuck(usize),
 }
 
@@ -69,7 +69,7 @@ pub fn read_text(text: &[u8]) -> TextReply
     let tree = read.tree;
     match reached {
         Reached::Stuck(p) => refusal_reply(15, p),
-        Reached::Behind(end) => {
+        Reached::After(end) => {
             if end == text.len() {
                 return tree_reply(tree);
             }

@@ -132,9 +132,9 @@ module _ (w : TreeWords) (s : LockState) (is b rs : List ℕ) where
       let l = all-long t xs in
       record {
         long = ap length a ∙ front-long (5 * (t .threads + 1)) (all-rows t xs) rs l (rows-fit e);
-        behind = ap (drop (5 * (t .threads + 1))) a ∙ front-rest (5 * (t .threads + 1)) (all-rows t xs) rs l;
+        after = ap (drop (5 * (t .threads + 1))) a ∙ front-rest (5 * (t .threads + 1)) (all-rows t xs) rs l;
         refused = λ n. absurd (n e);
-        told = λ _. rw (eq-eqb (refused-by w s is b rs .number) 0 e);
+        rows-counted = λ _. rw (eq-eqb (refused-by w s is b rs .number) 0 e);
         none-reported = λ n. absurd (n e);
       }
 
@@ -146,9 +146,9 @@ module _ (w : TreeWords) (s : LockState) (is b rs : List ℕ) where
         | no n ↦
             record {
               long = ap length (rows-refused n);
-              behind = ap (drop (5 * (t .threads + 1))) (rows-refused n);
+              after = ap (drop (5 * (t .threads + 1))) (rows-refused n);
               refused = λ _. rows-refused n;
-              told = λ e. absurd (n e);
+              rows-counted = λ e. absurd (n e);
               none-reported = λ _. rw (ne-eqb (refused-by w s is b rs .number) 0 n);
             }
       ]

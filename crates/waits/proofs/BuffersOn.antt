@@ -108,7 +108,7 @@ module _ (w : TreeWords) (s : LockState) (is b rs us : List ℕ) where
             (ap length (numbers-accepted e) ∙ length-append (under-way-below t us (t .threads) xs) (replicate (256 - t .threads) 0)
             ∙ omega (arith, long, few-threads e, length-replicate {A = ℕ} (256 - t .threads) 0));
         zeros = λ _ i h. ap (λ v. getD v i 0) (numbers-accepted e) ∙ after-front (under-way-below t us (t .threads) xs) (256 - t .threads) i (omega (arith, long, h));
-        told = λ _. rw (eq-eqb (met .number) 0 e);
+        rows-counted = λ _. rw (eq-eqb (met .number) 0 e);
         refused = λ n. absurd (n e);
       }
 
@@ -121,7 +121,7 @@ module _ (w : TreeWords) (s : LockState) (is b rs us : List ℕ) where
         after = rw z;
         as-many = λ e. absurd (n e);
         zeros = λ e i h. absurd (n e);
-        told = λ e. absurd (n e);
+        rows-counted = λ e. absurd (n e);
         refused = λ _. record { reply = rw z; traced = rw z; written = rw z; numbers = rw z };
       }
 

@@ -98,7 +98,7 @@ pub record Keeps-rest-on (w : TreeWords) (s : LockState) (schedule trace rows un
   pub as-many : refused-on w s schedule trace rows under-way .number ≡ 0 → length (waits-on-under-way w s schedule trace rows under-way) ≡ 256
   pub zeros :
       refused-on w s schedule trace rows under-way .number ≡ 0 → (i : ℕ) → tree-of w .threads ≤ i → getD (waits-on-under-way w s schedule trace rows under-way) i 0 ≡ 0
-  pub told : refused-on w s schedule trace rows under-way .number ≡ 0 → waits-on-answer w s schedule trace rows under-way .rows ≡ tree-of w .threads + 1
+  pub rows-counted : refused-on w s schedule trace rows under-way .number ≡ 0 → waits-on-answer w s schedule trace rows under-way .rows ≡ tree-of w .threads + 1
   pub refused : refused-on w s schedule trace rows under-way .number ≢ 0 → Untouched w s schedule trace rows under-way
 
 unfoldable pub Buffers-on-law : Type 0

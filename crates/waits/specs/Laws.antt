@@ -87,9 +87,9 @@ Row-law = (w : TreeWords) (s : LockState) (schedule trace rows : List ℕ) → r
 -- 5. THE ROW BUFFER keeps its length and what is after the rows; refused, all of it. The reply says how many rows stand at its front
 pub record Keeps-rest (w : TreeWords) (s : LockState) (schedule trace rows : List ℕ) : Type 0 where
   pub long : length (waits-rows w s schedule trace rows) ≡ length rows
-  pub behind : drop (5 * (tree-of w .threads + 1)) (waits-rows w s schedule trace rows) ≡ drop (5 * (tree-of w .threads + 1)) rows
+  pub after : drop (5 * (tree-of w .threads + 1)) (waits-rows w s schedule trace rows) ≡ drop (5 * (tree-of w .threads + 1)) rows
   pub refused : refused-by w s schedule trace rows .number ≢ 0 → waits-rows w s schedule trace rows ≡ rows
-  pub told : refused-by w s schedule trace rows .number ≡ 0 → waits-answer w s schedule trace rows .rows ≡ tree-of w .threads + 1
+  pub rows-counted : refused-by w s schedule trace rows .number ≡ 0 → waits-answer w s schedule trace rows .rows ≡ tree-of w .threads + 1
   pub none-reported : refused-by w s schedule trace rows .number ≢ 0 → waits-answer w s schedule trace rows .rows ≡ 0
 
 unfoldable pub Row-buffer-law : Type 0

@@ -41,7 +41,7 @@ fn check_entries(tree: &Tree, journal: &[u8]) -> JournalAnswer {
     let mut before = 0;
     while !rest.is_empty() {
         let refused = |number| JournalAnswer { number, place: journal.len() - rest.len() };
-        let Some((thread, kind, behind)) = first_entry(rest, before) else {
+        let Some((thread, kind, after)) = first_entry(rest, before) else {
             return refused(25);
         };
         if thread as usize >= tree.threads {
@@ -50,7 +50,7 @@ fn check_entries(tree: &Tree, journal: &[u8]) -> JournalAnswer {
         if step(tree, &mut state, thread as usize).number() != kind as u32 {
             return refused(26);
         }
-        rest = behind;
+        rest = after;
         before = thread;
     }
     JournalAnswer { number: 0, place: 0 }

@@ -41,9 +41,9 @@ pub fn run_many(words: &TreeWords, lengths: &[u32], entries: &[u16], rows: &mut 
     let mut rest = entries;
     let mut trace = Vec::new();
     for (&length, place) in lengths.iter().zip(rows.chunks_exact_mut(ROW)) {
-        let (schedule, behind) = rest.split_at(length as usize);
+        let (schedule, after) = rest.split_at(length as usize);
         place.copy_from_slice(&row(run_alone(&tree, schedule, &mut trace)));
-        rest = behind;
+        rest = after;
     }
     (0, 0, lengths.len())
 }

@@ -25,11 +25,11 @@ fn wrong(tree: &Tree, state: &mut State, thread: u16, kind: u16, domain: u16) ->
         return 19;
     }
     let before = state.clone();
-    let told_domain = domain_of(tree, state, thread as usize) as u16;
-    let told_kind = step(tree, state, thread as usize).number() as u16;
-    let number = if told_kind != kind {
+    let domain_taken = domain_of(tree, state, thread as usize) as u16;
+    let kind_taken = step(tree, state, thread as usize).number() as u16;
+    let number = if kind_taken != kind {
         26
-    } else if told_domain != domain {
+    } else if domain_taken != domain {
         29
     } else {
         0

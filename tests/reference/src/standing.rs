@@ -13,7 +13,7 @@ pub struct Standing {
 /// What the thread's next step does to standing ungranted in its domain.
 pub fn standing(tree: &Tree, state: &State, thread: usize) -> Standing {
     let domain = domain_of(tree, state, thread);
-    let begins = |behind_another: bool| Standing { begins: behind_another.then(|| tree.record(thread, domain)), ends: Vec::new() };
+    let begins = |after_another: bool| Standing { begins: after_another.then(|| tree.record(thread, domain)), ends: Vec::new() };
     match state.places[thread] {
         Place::Swap(_) => begins(state.tails[domain].is_some()),
         Place::Grant(_, to, _) => Standing { begins: None, ends: vec![to as usize] },

@@ -7,7 +7,7 @@ use crate::words::{StateWords, TreeWords};
 
 /// The outcome of a call: its number and place, and the schedule.
 #[derive(Clone, Copy)]
-pub struct Told<'a> {
+pub struct Outcome<'a> {
     pub number: u32,
     pub place: u32,
     pub schedule: &'a [u16],
@@ -32,49 +32,49 @@ const PIECE: u32 = 1_024;
 struct CountersMet {
     past_at_first: u64,
     past_later: u64,
-    past_behind_a_piece: u64,
+    past_after_a_piece: u64,
     past_after_another: u64,
     at_the_most: u64,
     near_the_most: u64,
 }
 
 impl CountersMet {
-    fn count(&mut self, tree: &Tree, state: &State, told: Told) {
+    fn count(&mut self, tree: &Tree, state: &State, outcome: Outcome) {
         let largest = state.counters.all().max().unwrap_or(0);
-        match told.number {
+        match outcome.number {
             0 => {
                 self.at_the_most += (largest == MOST_COUNTED) as u64;
-                self.near_the_most += (largest < MOST_COUNTED && largest + told.schedule.len() as u64 > MOST_COUNTED) as u64;
+                self.near_the_most += (largest < MOST_COUNTED && largest + outcome.schedule.len() as u64 > MOST_COUNTED) as u64;
             }
-            19 if told.place == 0 => self.past_at_first += 1,
-            19 if told.place >= PIECE => self.past_behind_a_piece += 1,
+            19 if outcome.place == 0 => self.past_at_first += 1,
+            19 if outcome.place >= PIECE => self.past_after_a_piece += 1,
             19 => self.past_later += 1,
-            13 | 18 if well_formed(tree, state) => self.past_after_another += first_past(tree, state, told.schedule).is_some() as u64,
+            13 | 18 if well_formed(tree, state) => self.past_after_another += first_past(tree, state, outcome.schedule).is_some() as u64,
             _ => (),
         }
     }
 
     fn print(&self) {
-        let CountersMet { past_at_first, past_later, past_behind_a_piece, past_after_another, at_the_most, near_the_most } = self;
-        println!("19 at the first entry: {past_at_first}, later: {past_later}, behind {PIECE} entries: {past_behind_a_piece}; 13 or 18 where 19 came next: {past_after_another}");
+        let CountersMet { past_at_first, past_later, past_after_a_piece, past_after_another, at_the_most, near_the_most } = self;
+        println!("19 at the first entry: {past_at_first}, later: {past_later}, after {PIECE} entries: {past_after_a_piece}; 13 or 18 where 19 came next: {past_after_another}");
         println!("accepted with a counter of 2^63: {at_the_most}, with one nearer to it than the schedule is long: {near_the_most}");
     }
 
     fn complete(&self) -> bool {
-        let past = [self.past_at_first, self.past_later, self.past_behind_a_piece, self.past_after_another];
+        let past = [self.past_at_first, self.past_later, self.past_after_a_piece, self.past_after_another];
         past.iter().chain(&[self.at_the_most, self.near_the_most]).all(|&times| times > 0)
     }
 }
 
 impl StateMet {
     /// Counts a call on a state, and its outcome.
-    pub fn count(&mut self, tree: &TreeWords, state: &StateWords, told: Told) {
+    pub fn count(&mut self, tree: &TreeWords, state: &StateWords, outcome: Outcome) {
         let (tree, state) = match (tree.tree(), state.state()) {
             (tree, Some(state)) if accept_tree(&tree).is_ok() => (tree, state),
             _ => return,
         };
-        self.counters.count(&tree, &state, told);
-        match told.number {
+        self.counters.count(&tree, &state, outcome);
+        match outcome.number {
             0 if tree.ticket_root => self.count_accepted(&tree, &state),
             0 => self.queue += 1,
             10 => self.count_refused(&tree, &state),

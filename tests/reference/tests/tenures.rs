@@ -61,12 +61,12 @@ fn acquire_parent_to_a_thread() {
 #[test]
 fn acquire_parent_to_a_domain() {
     let tree = tree(&[0, 0, 1, 1], &[0, 1, 1, 1], &[2, 3], false);
-    let behind = [(0, 6), (1, 5), (0, 6)];
-    let before = after(&tree, 0, &behind);
+    let checked = [(0, 6), (1, 5), (0, 6)];
+    let before = after(&tree, 0, &checked);
     assert_eq!((before.of(1), before.of(2), before.of(3)), ([1, 1, 1], [1, 1, 1], [0; 3]));
-    let granted = after(&tree, 0, &[&behind[..], &[(0, 1)]].concat());
+    let granted = after(&tree, 0, &[&checked[..], &[(0, 1)]].concat());
     assert_eq!((granted.of(1), granted.of(3)), ([1, 1, 1], [0, 1, 1]));
-    let entered = after(&tree, 0, &[&behind[..], &[(0, 1), (1, 3)]].concat());
+    let entered = after(&tree, 0, &[&checked[..], &[(0, 1), (1, 3)]].concat());
     assert_eq!((entered.of(1), entered.of(2), entered.of(3)), ([2, 2, 1], [1, 1, 1], [1, 1, 1]));
 }
 
@@ -110,7 +110,7 @@ fn the_root_alone() {
 }
 
 /// What a step counts for a domain, derived from the places before and after it and from the ungranted members: entries, tenures and a length.
-fn told(tree: &Tree, before: &State, after: &State, thread: usize, domain: usize) -> [u64; 3] {
+fn counted(tree: &Tree, before: &State, after: &State, thread: usize, domain: usize) -> [u64; 3] {
     let record = domain_record(domain);
     let mut given = standing(tree, before, thread).ends;
     match before.places[thread] {
@@ -128,7 +128,7 @@ fn told(tree: &Tree, before: &State, after: &State, thread: usize, domain: usize
 }
 
 #[test]
-fn each_step_counts_what_it_tells() {
+fn each_step_counts_what_it_reports() {
     let mut random = Random::new(1);
     let mut met = [0; 4];
     for _ in 0..20_000 {
@@ -139,7 +139,7 @@ fn each_step_counts_what_it_tells() {
         let mut after = before.clone();
         step(&tree, &mut after, thread);
         for domain in 1..tree.domains {
-            let [entries, tenures, length] = told(&tree, &before, &after, thread, domain);
+            let [entries, tenures, length] = counted(&tree, &before, &after, thread, domain);
             let [old_entries, old_tenures, old_longest] = before.counters.of(domain);
             assert_eq!(after.counters.of(domain), [old_entries + entries, old_tenures + tenures, old_longest.max(length)]);
             assert!(tenures <= 1);

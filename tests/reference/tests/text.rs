@@ -20,12 +20,12 @@ fn accepted(text: &str, parents: &[u8], thresholds: &[u16], homes: &[u8]) {
     assert_eq!((answer.number, answer.place), (0, 0), "{text}");
     let tree = answer.tree;
     assert_eq!((tree.domains as usize, tree.threads as usize, tree.ticket_root), (parents.len(), homes.len(), 0), "{text}");
-    let (front, behind) = tree.parents.split_at(parents.len());
-    assert!(front == parents && behind.iter().all(|&word| word == 0), "{text}");
-    let (front, behind) = tree.thresholds.split_at(thresholds.len());
-    assert!(front == thresholds && behind.iter().all(|&word| word == 0), "{text}");
-    let (front, behind) = tree.homes.split_at(homes.len());
-    assert!(front == homes && behind.iter().all(|&word| word == 0), "{text}");
+    let (front, rest) = tree.parents.split_at(parents.len());
+    assert!(front == parents && rest.iter().all(|&word| word == 0), "{text}");
+    let (front, rest) = tree.thresholds.split_at(thresholds.len());
+    assert!(front == thresholds && rest.iter().all(|&word| word == 0), "{text}");
+    let (front, rest) = tree.homes.split_at(homes.len());
+    assert!(front == homes && rest.iter().all(|&word| word == 0), "{text}");
 }
 
 fn children(count: usize) -> String {

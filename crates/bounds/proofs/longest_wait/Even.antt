@@ -120,7 +120,7 @@ module _ (t : Tree) (ok : tree-refusal t .number ≡ 0) (equal : Equal-levels t)
       omega (arith, each (x .0) (x .1))
     where
       child-within : (d : ℕ) → d < t .domains → (b : Bool) → is-child t c d ≡ b → cond b (allowance (effective t) (256 + d)) 0 ≤ P k
-      child-within d u true e = let f = child-facts t c d e in omega (arith, each (256 + d) (member-domain t c d (f .no-root) u (f .hangs)))
+      child-within d u true e = let f = child-facts t c d e in omega (arith, each (256 + d) (member-domain t c d (f .no-root) u (f .its-child)))
       child-within d u false e = omega arith
 
       not-more : (b : Bool) → is-leaf (effective t) c ≡ b → member-allowance (effective t) c ≤ P k

@@ -125,8 +125,8 @@ module _ (t : Tree) (ok : tree-refusal t .number ≡ 0) (even : Even t) (i : ℕ
         let one-lower : y .0 ≡ suc k = let w = y .3 in omega arith in
         let below : k < height t (x .thread) = let w = y .1 in omega arith in
         let c = ancestor t (x .thread) k in
-        let hangs : t .parent c ≡ d = ancestor-parent-of t valid (x .thread) (x .real) k below ∙ ap (ancestor t (x .thread)) (sym one-lower) ∙ y .2 in
-        let found = any-found (t .domains) (is-child t d) c (ancestor-real t valid (x .thread) (x .real) k) (child-yes t d c (ancestor-inner t valid (x .thread) (x .real) k below) hangs) in
+        let its-child : t .parent c ≡ d = ancestor-parent-of t valid (x .thread) (x .real) k below ∙ ap (ancestor t (x .thread)) (sym one-lower) ∙ y .2 in
+        let found = any-found (t .domains) (is-child t d) c (ancestor-real t valid (x .thread) (x .real) k) (child-yes t d c (ancestor-inner t valid (x .thread) (x .real) k below) its-child) in
         rw found refl
 
     children-count : members t d ≡ length (filter-below (t .domains) (is-child t d))
@@ -149,7 +149,7 @@ module _ (t : Tree) (ok : tree-refusal t .number ≡ 0) (even : Even t) (i : ℕ
         same-child c u = by (is-child t d c) refl
           where
             by : (b : Bool) → is-child t d c ≡ b → is-member t d (256 + c) ≡ b
-            by true e = let f = child-facts t d c e in member-domain t d c (f .no-root) u (f .hangs)
+            by true e = let f = child-facts t d c e in member-domain t d c (f .no-root) u (f .its-child)
             by false e = false-by (is-member t d (256 + c)) (λ m. true≢false (sym (child-there (member-facts t d (256 + c) m) c refl .0) ∙ e))
 
     count-higher : (n : ℕ) → ((c : ℕ) → is-child t d c ≡ true → c < t .domains → threads-under c ≡ n) → threads-under d ≡ members t d * n
@@ -178,7 +178,7 @@ module _ (t : Tree) (ok : tree-refusal t .number ≡ 0) (even : Even t) (i : ℕ
       lower c m u =
           let f = child-facts t d c m in
           let x = depth-child t valid c (f .no-root) u in
-          let y : depth t (t .parent c) ≡ depth t d = ap (depth t) (f .hangs) in
+          let y : depth t (t .parent c) ≡ depth t d = ap (depth t) (f .its-child) in
           omega arith
 
   all-threads : N t ok (even .levels) i hi (suc H) ≡ t .threads

@@ -61,7 +61,7 @@ module _ (t : Tree) (ok : tree-refusal t .number ≡ 0) where
       each q false e = omega arith
 
       child-within : (c : ℕ) → c < t .domains → (b : Bool) → is-child t d c ≡ b → cond b (allowance (effective t) (256 + c)) 0 ≤ most d
-      child-within c u true e = let f = child-facts t d c e in at-least d (256 + c) (member-domain t d c (f .no-root) u (f .hangs))
+      child-within c u true e = let f = child-facts t d c e in at-least d (256 + c) (member-domain t d c (f .no-root) u (f .its-child))
       child-within c u false e = omega arith
 
       by : (b : Bool) → is-leaf t d ≡ b → member-allowance (effective t) d ≤ most d

@@ -25,7 +25,7 @@ use Rattle.bounds.specs.StarvationFreedom.Bounds.{members, passes, other
 use Rattle.bounds.specs.StarvationFreedom.Laws.{is-acquiring}
 use Rattle.bounds.proofs.starvation_freedom.Situations.{Situation, queues, next, next-change}
 use Rattle.bounds.proofs.starvation_freedom.Within.{Within, then, longer, at-once, meanwhile}
-use Rattle.bounds.proofs.starvation_freedom.Turns.{Acquires, by-prep, by-draw, From-swap, entered, alone, behind, From-idle, to-swap, drawn-inside, drawn-watch, prep-turn, draw-turn, swap-turn, idle-turn}
+use Rattle.bounds.proofs.starvation_freedom.Turns.{Acquires, by-prep, by-draw, From-swap, entered, alone, to-link, From-idle, to-swap, drawn-inside, drawn-watch, prep-turn, draw-turn, swap-turn, idle-turn}
 use Rattle.bounds.proofs.starvation_freedom.Says.{Says, says}
 use Rattle.bounds.proofs.starvation_freedom.Releasing.{place-round}
 use Rattle.bounds.proofs.starvation_freedom.Queues.{tag, queue-change}
@@ -72,12 +72,12 @@ module _ (t : Tree) (valid : Accepted t) (bits : Sixteen-bit t) where
       passes-of c = ahead (passes t) mine (queues c .queue d)
 
       -- while r is first, a's distance does not grow; afterwards a is nearer, and the passes ahead are fewer by those of r
-      abbrev Behind : (r n w : ℕ) → Situation t → Type 0
-      Behind r n w c =
+      abbrev Stands-after : (r n w : ℕ) → Situation t → Type 0
+      Stands-after r n w c =
           (queues c .stage a ≡ queued m)
           × (((first (queues c .queue d) ≡ suc r) × (place-of c ≤ suc n) × (passes-of c ≤ passes t r + w)) ⊎ ((place-of c ≤ n) × (passes-of c ≤ w)))
 
-      after-lasts : (r n w : ℕ) (c : Situation t) (x : ℕ) (h : x < t .threads) → Behind r n w c → Behind r n w (next t valid bits c x h) ⊎ Freed (next t valid bits c x h)
+      after-lasts : (r n w : ℕ) (c : Situation t) (x : ℕ) (h : x < t .threads) → Stands-after r n w c → Stands-after r n w (next t valid bits c x h) ⊎ Freed (next t valid bits c x h)
       after-lasts r n w c x h (e, q) =
           let c′ = next t valid bits c x h in
           let once = c .queued .represents .invariant .once d mine in
@@ -125,7 +125,7 @@ module _ (t : Tree) (valid : Accepted t) (bits : Sixteen-bit t) where
           let whole : passes t r + w′ ≡ w = omega arith in
           let z : first-rounds t d r + before-rounds n w′ ≡ before-rounds (suc n) w = tenure-and-rest r n w′ ∙ ap (before-rounds (suc n)) whole in
           rw (← z) (then t valid bits (first-rounds t d r) (before-rounds n w′)
-          (meanwhile t valid bits (Behind r n w′) Freed (after-lasts r n w′) (first-rounds t d r) leaves (e, inl (b .1, p, omega arith)))
+          (meanwhile t valid bits (Stands-after r n w′) Freed (after-lasts r n w′) (first-rounds t d r) leaves (e, inl (b .1, p, omega arith)))
           (λ c′ q. elim q [
             | inl (gone, (e′, near)) ↦ elim near [ inl (u, v, y′) ↦ absurd (gone u) | inr (v, y′) ↦ stands-rounds n w′ c′ e′ v y′ ]
             | inr v ↦ at-once t valid bits (before-rounds n w′) v
@@ -278,7 +278,7 @@ module _ (t : Tree) (valid : Accepted t) (bits : Sixteen-bit t) where
       swapped-inside : (c : Situation t) → From-swap t a m (place (c .words) a) → Within t valid bits rest-rounds (Enters t valid bits a) c
       swapped-inside c (entered e) = at-once t valid bits rest-rounds e
       swapped-inside c (alone b x) = longer t valid bits (above-rounds t d) rest-rounds above-there (next-inside c b (prepares x))
-      swapped-inside c (behind q e) = stood-inside c (links t valid bits a ha m (omega arith) c q e)
+      swapped-inside c (to-link q e) = stood-inside c (links t valid bits a ha m (omega arith) c q e)
 
       pub swap-inside : (c : Situation t) → place (c .words) a ≡ Swap d → Within t valid bits (1 + rest-rounds) (Enters t valid bits a) c
       swap-inside c e =

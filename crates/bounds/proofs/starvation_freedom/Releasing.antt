@@ -116,31 +116,31 @@ module _ (t : Tree) (valid : Accepted t) (bits : Sixteen-bit t) (a : ℕ) (ha : 
         record { thread = x .0; real = x .1 .real; domain = y .0; linking = y .1 }
 
     module _ (b : ℕ) (hb : b < t .threads) (m : ℕ) where
-      abbrev Behind : Situation t → Type 0
-      Behind c = Lingers c × (place (c .words) b ≡ Link m R)
+      abbrev Linking : Situation t → Type 0
+      Linking c = Lingers c × (place (c .words) b ≡ Link m R)
 
-      other-thread : (c : Situation t) → Behind c → b ≢ a
+      other-thread : (c : Situation t) → Linking c → b ≢ a
       other-thread c (e, f) z = let o : words-of (Link m R) .row ≡ words-of (Linger L) .row = ap (λ p. words-of p .row) (sym f ∙ ap (place (c .words)) z ∙ e) in omega arith
 
       -- the lingering thread's own step meanwhile
-      own-meanwhile : (c : Situation t) (h : a < t .threads) → Behind c → Behind (situations.next t valid bits c a h) ⊎ (Linked (situations.next t valid bits c a h) ⊎ Grants (situations.next t valid bits c a h))
+      own-meanwhile : (c : Situation t) (h : a < t .threads) → Linking c → Linking (situations.next t valid bits c a h) ⊎ (Linked (situations.next t valid bits c a h) ⊎ Grants (situations.next t valid bits c a h))
       own-meanwhile c h (e, f) =
           same-or (next (c .words) R) 0 _
           (λ z. inl (turns.linger-stays t valid bits c a h L e (rw (own-record-at t valid a ha k l) z), place-other t valid bits c a h b (other-thread c (e, f)) ∙ f))
           (λ z. inr (inr (turns.linger-turn t valid bits c a h L e (rw (own-record-at t valid a ha k l) z))))
 
-      link-sets : (c : Situation t) (h : b < t .threads) → Behind c → Linked (situations.next t valid bits c b h)
+      link-sets : (c : Situation t) (h : b < t .threads) → Linking c → Linked (situations.next t valid bits c b h)
       link-sets c h (e, f) =
           let s = c .words in
           let stored : next (row t b (place s b) s .state) R ≢ 0 = rw (f, link-nexts t s b m R) (rw (getD-set-same (s .nexts) R (own-record t b m + 1) 0 (omega (arith, c .queued .room .nexts-room, record-small t valid a ha k l))) (λ z. omega arith)) in
           (place-other t valid bits c b h a (λ z. other-thread c (e, f) (sym z)) ∙ e, rw (next-words t valid bits c b h) stored)
 
-      link-round : {c : Situation t} → Behind c → Within t valid bits 1 (λ d. Linked d ⊎ Grants d) c
+      link-round : {c : Situation t} → Linking c → Within t valid bits 1 (λ d. Linked d ⊎ Grants d) c
       link-round p =
-          one-round t valid bits b hb Behind (λ d. Linked d ⊎ Grants d)
+          one-round t valid bits b hb Linking (λ d. Linked d ⊎ Grants d)
           (λ c x h n q. same-or x a _
           (λ z.
-          let own : (h : x < t .threads) → Behind (situations.next t valid bits c x h) ⊎ (Linked (situations.next t valid bits c x h) ⊎ Grants (situations.next t valid bits c x h)) =
+          let own : (h : x < t .threads) → Linking (situations.next t valid bits c x h) ⊎ (Linked (situations.next t valid bits c x h) ⊎ Grants (situations.next t valid bits c x h)) =
           rw z (λ h. own-meanwhile c h q) in
           own h)
           (λ z. inl (place-other t valid bits c x h a (λ y. z (sym y)) ∙ q .0, place-other t valid bits c x h b (λ y. n (sym y)) ∙ q .1)))

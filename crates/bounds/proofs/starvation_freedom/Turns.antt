@@ -49,7 +49,7 @@ pub data From-idle (t : Tree) (i : ℕ) : Place → Type 0 where
 pub data From-swap (t : Tree) (i k : ℕ) : Place → Type 0 where
   entered : {p : Place} → p ≡ Inside → From-swap t i k p
   alone : {p : Place} → k < height t i → Acquires t i (suc k) p → From-swap t i k p
-  behind : {p : Place} (q : ℕ) → p ≡ Link (ancestor t i k) q → From-swap t i k p
+  to-link : {p : Place} (q : ℕ) → p ≡ Link (ancestor t i k) q → From-swap t i k p
 
 -- the place after Check: a pass, or the release of the parent
 pub data From-check (t : Tree) (i k : ℕ) : Place → Type 0 where
@@ -130,7 +130,7 @@ module _ (t : Tree) (valid : Accepted t) (bits : Sixteen-bit t) (c : Situation t
       by : {x : Row-result} → Branch t i s (Swap (ancestor t i k)) x → From-swap t i k (place (x .state) i)
       by (swap-root _ _ _) = entered (here Inside)
       by (swap-inner _ n _) = let b = ancestor-not-root t valid i h k l (omega (arith, n)) in alone b (climbs k b)
-      by (swap-joins _ _) = let q = tail s (ancestor t i k) - 1 in behind q (here (Link (ancestor t i k) q))
+      by (swap-joins _ _) = let q = tail s (ancestor t i k) - 1 in to-link q (here (Link (ancestor t i k) q))
 
   pub link-turn : (l q : ℕ) → place s i ≡ Link l q → after ≡ Wait l
   link-turn l q e = turn (λ p. p ≡ Wait l) (Link l q) e (λ _. by)

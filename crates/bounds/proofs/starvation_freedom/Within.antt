@@ -45,14 +45,14 @@ covers-less t (suc a) (suc b) S h (r, S′, e, every, c) = (r, S′, e, every, c
 
 record Split (t : Tree) (a b : ℕ) (S : List ℕ) : Type 0 where
   before : List ℕ
-  behind : List ℕ
-  joined : S ≡ before ++ behind
+  after : List ℕ
+  joined : S ≡ before ++ after
   first-ones : Covers t a before
-  last-ones : Covers t b behind
+  last-ones : Covers t b after
 
 covers-split : (t : Tree) (a b : ℕ) (S : List ℕ) → Covers t (a + b) S → Split t a b S
 unfolding Covers
-covers-split t zero b S c = record { before = []; behind = S; joined = refl; first-ones = tt; last-ones = let z : 0 + b ≡ b = omega arith in rw z at c }
+covers-split t zero b S c = record { before = []; after = S; joined = refl; first-ones = tt; last-ones = let z : 0 + b ≡ b = omega arith in rw z at c }
 covers-split t (suc a) b S c = by (λ S′ d. covers-split t a b S′ d) (let z : suc a + b ≡ suc (a + b) = omega arith in rw z at c)
   where
     by : ((S′ : List ℕ) → Covers t (a + b) S′ → Split t a b S′) → Covers t (suc (a + b)) S → Split t (suc a) b S
@@ -60,8 +60,8 @@ covers-split t (suc a) b S c = by (λ S′ d. covers-split t a b S′ d) (let z 
         let x = rec S′ d in
         record {
           before = r ++ x .before;
-          behind = x .behind;
-          joined = e ∙ ap (λ l. r ++ l) (x .joined) ∙ sym (append-assoc r (x .before) (x .behind));
+          after = x .after;
+          joined = e ∙ ap (λ l. r ++ l) (x .joined) ∙ sym (append-assoc r (x .before) (x .after));
           first-ones = (r, x .before, refl, every, x .first-ones);
           last-ones = x .last-ones;
         }
@@ -86,8 +86,8 @@ module _ (t : Tree) (valid : Accepted t) (bits : Sixteen-bit t) where
     pub sequence : (a : ℕ) (c : Situation t) → Within a P c → (S : List ℕ) → All-threads t S → Covers t (a + b) S → E S c
     sequence a c w S all cov =
         let x = covers-split t a b S cov in
-        let all′ : All-threads t (x .before ++ x .behind) = rw (x .joined) at all in
-        rw (x .joined) (continue (x .before) (x .behind) c (w (x .before) (threads-left t (x .before) (x .behind) all′) (x .first-ones)) all′ (x .last-ones))
+        let all′ : All-threads t (x .before ++ x .after) = rw (x .joined) at all in
+        rw (x .joined) (continue (x .before) (x .after) c (w (x .before) (threads-left t (x .before) (x .after) all′) (x .first-ones)) all′ (x .last-ones))
 
   pub then : {P Q : Situation t → Type 0} (a b : ℕ) {c : Situation t} → Within a P c → ((c′ : Situation t) → P c′ → Within b Q c′) → Within (a + b) Q c
   then {P} {Q} a b {c} w f = sequence P (Reaches Q) (λ S d x h r. later x h r) b f a c w

@@ -60,8 +60,8 @@ less-deep =
     tree 9 6 (0 ∷ 0 ∷ 1 ∷ 2 ∷ 3 ∷ 3 ∷ 2 ∷ 1 ∷ 0 ∷ []) (0 ∷ 65535 ∷ 65535 ∷ 65535 ∷ 8192 ∷ 1 ∷ 1 ∷ 1 ∷ 1 ∷ []) (4 ∷ 4 ∷ 5 ∷ 6 ∷ 7 ∷ 8 ∷ [])
 
 -- the reply for a tree has these numbers
-abbrev pub tells : (number place rounds turns : ℕ) → TreeWords → Bool
-tells n p r u w =
+abbrev pub rounds-are : (number place rounds turns : ℕ) → TreeWords → Bool
+rounds-are n p r u w =
     let a = rounds-answer w in
     eqb (a .number) n && (eqb (a .place) p && (eqb (a .rounds) r && eqb (a .turns) u))
 
@@ -69,16 +69,16 @@ tells n p r u w =
 unfoldable pub rounds-cases : List Bool
 rounds-cases =
     -- two threads in the root
-    tells 0 0 19 38 (tree 1 2 [] [] (0 ∷ 0 ∷ []))
-    ∷ tells 0 0 44 132 example
-    ∷ tells 0 0 44 88 two-levels
-    ∷ tells 0 0 52 208 two-pairs
-    ∷ tells 0 0 62 248 not-divided
+    rounds-are 0 0 19 38 (tree 1 2 [] [] (0 ∷ 0 ∷ []))
+    ∷ rounds-are 0 0 44 132 example
+    ∷ rounds-are 0 0 44 88 two-levels
+    ∷ rounds-are 0 0 52 208 two-pairs
+    ∷ rounds-are 0 0 62 248 not-divided
     -- a single thread
-    ∷ tells 0 0 55 55 deep
-    ∷ tells 0 0 18446744073709551615 18446744073709551615 deep-with-leaves
-    ∷ tells 0 0 16140162203956224025 18446744073709551615 less-deep
-    ∷ tells 16 2 0 0 (tree 3 1 (0 ∷ 0 ∷ 0 ∷ []) (0 ∷ 2 ∷ 2 ∷ []) (1 ∷ [])) ∷ []
+    ∷ rounds-are 0 0 55 55 deep
+    ∷ rounds-are 0 0 18446744073709551615 18446744073709551615 deep-with-leaves
+    ∷ rounds-are 0 0 16140162203956224025 18446744073709551615 less-deep
+    ∷ rounds-are 16 2 0 0 (tree 3 1 (0 ∷ 0 ∷ 0 ∷ []) (0 ∷ 2 ∷ 2 ∷ []) (1 ∷ [])) ∷ []
 
 -- the wait bounds of a tree are these words
 abbrev pub waits : (words : List ℕ) → TreeWords → Bool

@@ -73,14 +73,14 @@ module _ (t : Tree) (valid : Accepted t) (bits : Sixteen-bit t) (s : WordState) 
   pub record Linking (j r : ℕ) : Type 0 where
     pub index : ℕ
     pub acting : index < moves.acts (height t j) (g .stage j)
-    pub behind : after (g .queue (ancestor t j index)) r ≡ suc (record-at t j index)
+    pub follows : after (g .queue (ancestor t j index)) r ≡ suc (record-at t j index)
     pub quiet : next s r ≡ 0
 
   pub linking-there : (j l r : ℕ) → j < t .threads → place s j ≡ Link l r → Linking j r
   unfolding words-in moves.acts Says
   linking-there j l r h e =
       let y : Says t w g j (Link l r) (g .stage j) = says-at e (q .represents .fits j h) in
-      record { index = y .0; acting = omega (arith, ap (moves.acts (height t j)) (y .2)); behind = y .3; quiet = y .4 }
+      record { index = y .0; acting = omega (arith, ap (moves.acts (height t j)) (y .2)); follows = y .3; quiet = y .4 }
 
   once : (d : ℕ) → Once (g .queue d)
   once d a = inv .once d a
@@ -143,7 +143,7 @@ module _ (t : Tree) (valid : Accepted t) (bits : Sixteen-bit t) (s : WordState) 
                 let f′ : links (place s j) R ≡ true = ap (links (place s j)) (sym own) ∙ f in
                 let x = link-place (place s j) R f′ in
                 let y = linking-there j (x .0) R hj (x .1) in
-                let after-j : after (g .queue (ancestor t j (y .index))) R ≡ suc (record-at t j (y .index)) = y .behind in
+                let after-j : after (g .queue (ancestor t j (y .index))) R ≡ suc (record-at t j (y .index)) = y .follows in
                 let after-R : after (g .queue d) R ≡ suc m = rw shape (after-here R R (m ∷ ys) refl ∙ first-cons m ys) in
                 let there = one-queue t (laws t valid) g inv (ancestor t j (y .index)) d R (after-in _ R _ after-j) (after-in _ R _ after-R) in
                 let after-d : after (g .queue d) R ≡ suc (record-at t j (y .index)) = rw there at after-j in
@@ -198,7 +198,7 @@ module _ (t : Tree) (valid : Accepted t) (bits : Sixteen-bit t) (s : WordState) 
       ticket-there =
           let p = predecessor .0 in
           let x = tickets-held (λ r. status s r) (s .grant) (s .ticket) p (g .queue 0) grant-small held predecessor-there in
-          let small : status s p < 65536 = rw (x .ticket) (wrap-fits (s .grant + x .behind)) in
+          let small : status s p < 65536 = rw (x .ticket) (wrap-fits (s .grant + x .distance)) in
           let one : status s mine ≡ wrap (status s p + 1) = ticket-next (λ r. status s r) (s .grant) (s .ticket) p mine (g .queue 0) held (predecessor .1) in
           let before : ticket-before (status s mine) ≡ status s p = rw one (omega arith) in
           ap (λ r. ticket-before (status s r)) (root-record t valid i h) ∙ before

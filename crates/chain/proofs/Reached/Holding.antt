@@ -28,7 +28,7 @@ use Rattle.claims.proofs.Queues.Paths.{laws}
 use Rattle.claims.proofs.Queues.Moves.{queued, low, State}
 use Rattle.claims.proofs.Queues.Moves as moves
 use Rattle.claims.proofs.Queues.Invariant.{Inv, acts-low, low-acts, one-queue}
-use Rattle.claims.proofs.Words.Links.{after, after-behind, after-in}
+use Rattle.claims.proofs.Words.Links.{after, after-counted, after-in}
 use Rattle.claims.proofs.Words.View.{Words, words-in}
 use Rattle.claims.proofs.Words.Says.{pass, release, Says, says-at}
 use Rattle.claims.proofs.Words.Tickets.{tickets-rest}
@@ -83,7 +83,7 @@ module _ (t : Tree) (valid : Accepted t) (bits : Sixteen-bit t) (s : WordState) 
     pub index : ℕ
     pub acting : index < moves.acts (height t c) (g .stage c)
     pub queue-there : is-ticket t (ancestor t c index) ≡ false
-    pub behind : after (g .queue (ancestor t c index)) (record-at t c index) ≡ suc r
+    pub follows : after (g .queue (ancestor t c index)) (record-at t c index) ≡ suc r
 
   module _ (c : ℕ) (hc : c < t .threads) where
     granted : (l r v : ℕ) → place s c ≡ Grant l r v → Granted c r
@@ -96,7 +96,7 @@ module _ (t : Tree) (valid : Accepted t) (bits : Sixteen-bit t) (s : WordState) 
           index = x .index;
           acting = x .acting;
           queue-there = nt;
-          behind = sym (q .represents .linked (ancestor t c (x .index)) nt .chain (record-at t c (x .index)) (in-queue t valid bits s q c (x .index) (x .acting)) (λ z. let y = x .names in omega arith)) ∙ x .names;
+          follows = sym (q .represents .linked (ancestor t c (x .index)) nt .chain (record-at t c (x .index)) (in-queue t valid bits s q c (x .index) (x .acting)) (λ z. let y = x .names in omega arith)) ∙ x .names;
         }
 
     -- the words of other threads' records
@@ -122,7 +122,7 @@ module _ (t : Tree) (valid : Accepted t) (bits : Sixteen-bit t) (s : WordState) 
         let r = record-at t j m in
         let f = inv .threads j .heads m b in
         let d = ancestor t c (x .index) in
-        let rest-count = after-behind (g .queue d) (record-at t c (x .index)) r (x .behind) in
+        let rest-count = after-counted (g .queue d) (record-at t c (x .index)) r (x .follows) in
         let same = one-queue t (laws t valid) g inv (ancestor t j m) d r (first-in r (g .queue (ancestor t j m)) f) (omega (arith, count-rest r (g .queue d))) in
         let f′ : first (g .queue d) ≡ suc r = rw same at f in
         omega (arith, first-count r (g .queue d) f′, inv .once d r)
@@ -185,7 +185,7 @@ module _ (t : Tree) (valid : Accepted t) (bits : Sixteen-bit t) (s : WordState) 
       wait-kept : (k p : ℕ) → k ≤ height t a → g .stage a ≡ queued k → is-ticket t (ancestor t a k) ≡ false → after (g .queue (ancestor t a k)) p ≡ suc (record-at t a k) →
           place s a ≡ Wait (ancestor t a k) → Kept (Wait (ancestor t a k))
       unfolding looked-to acts-ahead low row
-      wait-kept k p l e nt behind y looked still =
+      wait-kept k p l e nt follows y looked still =
           let d = ancestor t a k in
           let I = record-at t a k in
           let own = own-record-at t valid a ha k l in
@@ -195,10 +195,10 @@ module _ (t : Tree) (valid : Accepted t) (bits : Sixteen-bit t) (s : WordState) 
           let before = stands-before t valid bits s q d I b nt hb (both .0) (named ∙ (let z : own-record t a d + 1 ≡ suc I = omega arith in z)) in
           let not-granted : Granted c I → ⊥ = λ gr.
           let e₁ = ancestor t c (gr .index) in
-          let rest-count = after-behind (g .queue e₁) (record-at t c (gr .index)) I (gr .behind) in
-          let own-count = after-behind (g .queue d) p I behind in
+          let rest-count = after-counted (g .queue e₁) (record-at t c (gr .index)) I (gr .follows) in
+          let own-count = after-counted (g .queue d) p I follows in
           let same = one-queue t (laws t valid) g inv e₁ d I (omega (arith, count-rest I (g .queue e₁))) (omega (arith, count-rest I (g .queue d))) in
-          let after-c : after (g .queue d) (record-at t c (gr .index)) ≡ suc I = rw same at (gr .behind) in
+          let after-c : after (g .queue d) (record-at t c (gr .index)) ≡ suc I = rw same at (gr .follows) in
           let record-same = after-same (g .queue d) (record-at t c (gr .index)) (own-record t b d) I after-c before (λ u. inv .once d u) in
           cb (sym (same-thread t valid bits s q c b (gr .index) (x .index) (gr .acting) (x .within) (record-same ∙ sym (x .mine)))) in
           let status-is : status after-step (own-record t a d) ≡ status s (own-record t a d) = rw own (status-same a k ha ca (rw e (omega arith)) not-granted) in
@@ -217,9 +217,9 @@ module _ (t : Tree) (valid : Accepted t) (bits : Sixteen-bit t) (s : WordState) 
           let lb = link-place (place s b) R looked′ in
           let xb = linking-there t valid bits s q b (lb .0) R hb (lb .1) in
           let not-linked : Linking t valid bits s q c R → ⊥ = λ xc.
-          let same = one-queue t (laws t valid) g inv (ancestor t c (xc .index)) (ancestor t b (xb .index)) R (after-in _ R _ (xc .behind)) (after-in _ R _ (xb .behind)) in
-          let bc : after (g .queue (ancestor t b (xb .index))) R ≡ suc (record-at t c (xc .index)) = rw same at (xc .behind) in
-          let bb = xb .behind in
+          let same = one-queue t (laws t valid) g inv (ancestor t c (xc .index)) (ancestor t b (xb .index)) R (after-in _ R _ (xc .follows)) (after-in _ R _ (xb .follows)) in
+          let bc : after (g .queue (ancestor t b (xb .index))) R ≡ suc (record-at t c (xc .index)) = rw same at (xc .follows) in
+          let bb = xb .follows in
           cb (sym (same-thread t valid bits s q c b (xc .index) (xb .index) (xc .acting) (xb .acting) (omega arith))) in
           let next-is : next after-step (own-record t a d) ≡ next s (own-record t a d) = rw own (next-same a k ha ca (omega arith) not-linked) in (
             stays-at t after-step a (Linger d) (place-a ∙ y) ∙ linger-stays t after-step a d ∙ ap (λ v. eqb v 0) next-is ∙ sym (linger-stays t s a d) ∙ sym (stays-at t s a (Linger d) y) ∙ still,
@@ -241,7 +241,7 @@ module _ (t : Tree) (valid : Accepted t) (bits : Sixteen-bit t) (s : WordState) 
         not-granted-root : (r : ℕ) → 1 ≤ count r (g .queue 0) → Granted c r → ⊥
         not-granted-root r m gr =
             let d = ancestor t c (gr .index) in
-            let rest-count = after-behind (g .queue d) (record-at t c (gr .index)) r (gr .behind) in
+            let rest-count = after-counted (g .queue d) (record-at t c (gr .index)) r (gr .follows) in
             let same = one-queue t (laws t valid) g inv d 0 r (omega (arith, count-rest r (g .queue d))) m in
             false≢true (sym (gr .queue-there) ∙ ticket-yes t d root same)
 

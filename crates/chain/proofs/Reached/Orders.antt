@@ -11,7 +11,7 @@ use borrow.Author.Tests.{eq-eqb, ne-eqb}
 use Rattle.model.specs.States.{wrap}
 use Rattle.model.proofs.Lists.{same-or, first, rest, is-same, is-other, count, count-cons, count-nil, first-count, count-later, rest-cons, first-cons, first-nil}
 use Rattle.model.proofs.Laws.Form.{wrap-fits}
-use Rattle.claims.proofs.Words.Links.{after, after-nil, after-here, after-past, after-behind, after-in}
+use Rattle.claims.proofs.Words.Links.{after, after-nil, after-here, after-past, after-counted, after-in}
 use Rattle.claims.proofs.Words.Represents.{Tickets}
 use Rattle.claims.proofs.Words.Tickets.{tickets-first, tickets-rest}
 
@@ -26,7 +26,7 @@ pub after-same : (q : List ℕ) (a b r : ℕ) → after q a ≡ suc r → after 
 after-same [] a b r e f o = absurd (omega (arith, after-nil a))
 after-same (x ∷ xs) a b r e f o =
     let later : (c : ℕ) → c ≢ x → after (x ∷ xs) c ≡ suc r → first xs ≡ suc r → ⊥ = λ c n z y.
-    let k = after-behind xs c r (sym (after-past c x xs n) ∙ z) in
+    let k = after-counted xs c r (sym (after-past c x xs n) ∙ z) in
     omega (arith, o r, count-cons r x xs, first-count r xs y) in
     same-or a x _
     (λ z. same-or b x _ (λ y. z ∙ sym y) (λ y. absurd (later b y f (sym (after-here a x xs z) ∙ e))))
@@ -70,7 +70,7 @@ position-small r (x ∷ xs) =
 pub position-next : (q : List ℕ) (p r : ℕ) → after q p ≡ suc r → Once q → position r q ≡ suc (position p q)
 position-next [] p r e o = absurd (omega (arith, after-nil p))
 position-next (x ∷ xs) p r e o =
-    let behind = after-behind (x ∷ xs) p r e in
+    let counted = after-counted (x ∷ xs) p r e in
     let apart : r ≢ x = λ z. omega (arith, o r, count-cons r x xs, is-same r x z, ap (count r) (rest-cons x xs)) in
     same-or p x _
     (λ z.

@@ -29,7 +29,7 @@ use Rattle.chain.proofs.Reached.Falling.{rank, falls}
 use Rattle.chain.proofs.Reached.Staying.{only-stays}
 
 -- THE LINKS of a list with one more thread: those it had, and the last
-abbrev Is-link : List ℕ → (behind ahead : ℕ) → Type 0
+abbrev Is-link : List ℕ → (waiting ahead : ℕ) → Type 0
 Is-link c a b = (before : List ℕ) × (after : List ℕ) × (c ≡ before ++ (a ∷ b ∷ after))
 
 longer-link : (front : List ℕ) (i j : ℕ) (before : List ℕ) (a b : ℕ) (after : List ℕ) → front ++ (i ∷ []) ++ (j ∷ []) ≡ before ++ (a ∷ b ∷ after) →

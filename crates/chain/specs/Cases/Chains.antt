@@ -51,12 +51,12 @@ abbrev pub refused : ChainReply → (after before : List ℕ) → (number : ℕ)
 refused r a b n = refused-at r a b n 0
 
 -- a buffer with one element more than there are threads
-abbrev pub roomy : TreeWords → List ℕ
-roomy w = sevens (w .threads + 1)
+abbrev pub long-buffer : TreeWords → List ℕ
+long-buffer w = sevens (w .threads + 1)
 
 -- whether a case holds
 unfoldable pub holds : Case → Bool
-holds (gives w s i c) = gave (chain-answer w (uncounted s) i (roomy w)) (buffer-answer w (uncounted s) i (roomy w)) (roomy w) 0 c
+holds (gives w s i c) = gave (chain-answer w (uncounted s) i (long-buffer w)) (buffer-answer w (uncounted s) i (long-buffer w)) (long-buffer w) 0 c
 holds (refuses w s i room n) =
     refused (chain-answer w (uncounted s) i (sevens room)) (buffer-answer w (uncounted s) i (sevens room)) (sevens room) n
 holds (refuses-at w s i room n p) =
@@ -65,7 +65,7 @@ holds (breaks w s i last c) =
     refused (chain-answer w (uncounted s) i (sevens (w .threads))) (buffer-answer w (uncounted s) i (sevens (w .threads))) (sevens (w .threads)) 21
     && same-numbers (looks-to (tree-of w) s last) c
 holds (counted w s k i n c) =
-    gave (chain-answer w (lock-state s k) i (roomy w)) (buffer-answer w (lock-state s k) i (roomy w)) (roomy w) n c
+    gave (chain-answer w (lock-state s k) i (long-buffer w)) (buffer-answer w (lock-state s k) i (long-buffer w)) (long-buffer w) n c
 
 -- whether every case of a list holds
 unfoldable pub all-hold : List Case → Bool

@@ -14,7 +14,7 @@ use Rattle.model.specs.Answers.{fresh-answer}
 use Rattle.model.specs.Laws.{All-threads, Formed, Form-law}
 use Rattle.model.specs.Calls.{Ask, one-step, a-run, Call, state-in, answer, ask-refusal, call-refusal, asked-entries, added, joined, Names}
 use Rattle.claims.specs.Claim.{Demand-three}
-use Rattle.claims.specs.Reached.{last-state, Well-asked, Never-refused, Well-asked-law, Longest-run-law, lone-run, Lone-run-law}
+use Rattle.claims.specs.Reached.{last-state, Valid-ask, Never-refused, Valid-ask-law, Longest-run-law, lone-run, Lone-run-law}
 use Rattle.model.proofs.Laws.Form.{form-law}
 use Rattle.model.proofs.Laws.Calls.{Counts-pass, step-facts, step-accepted, run-facts, run-accepted}
 use Rattle.model.proofs.Laws.Counters.{counter-form-law, room-law, fresh-room, fresh-room-law}
@@ -33,17 +33,17 @@ last-reached t f (c ∷ cs) pre s here n =
     next ∙ ap (reached t f) (append-assoc pre (added c s) (joined cs (state-in (answer c s))))
 
 asks-accepted :
-    (t : Tree) → tree-refusal t .number ≡ 0 → (a : Ask) (s : LockState) → Formed t (s .words) → good-counts t (s .counters) ≡ true → Counts-pass t s (asked-entries a) → Well-asked t a →
+    (t : Tree) → tree-refusal t .number ≡ 0 → (a : Ask) (s : LockState) → Formed t (s .words) → good-counts t (s .counters) ≡ true → Counts-pass t s (asked-entries a) → Valid-ask t a →
     ask-refusal t a s ≡ accepted
-unfolding ask-refusal Well-asked asked-entries
+unfolding ask-refusal Valid-ask asked-entries
 asks-accepted t ok (one-step i) s f g low h = step-accepted t s i (record { tree = ok; form = f .form; counts = g; thread = h }) low
 asks-accepted t ok (a-run is b) s f g low h =
     run-accepted t s is (length b) (record { tree = ok; form = f .form; counts = g; short = omega (arith, h .1); threads = h .0; fits = omega (arith, h .2) }) low
 
-pub well-asked-law : Well-asked-law
-unfolding Well-asked-law Well-asked ask-refusal
-well-asked-law t (one-step i) s e = step-facts t s i e .thread
-well-asked-law t (a-run is b) s e =
+pub valid-ask-law : Valid-ask-law
+unfolding Valid-ask-law Valid-ask ask-refusal
+valid-ask-law t (one-step i) s e = step-facts t s i e .thread
+valid-ask-law t (a-run is b) s e =
     let good = run-facts t s is (length b) e in
     (good .threads, omega (arith, good .short), omega (arith, good .fits))
 
@@ -53,7 +53,7 @@ same-threads t zero i h = tt
 same-threads t (suc n) i h = (h, same-threads t n i h)
 
 pub longest-run-law : Longest-run-law
-unfolding Longest-run-law Well-asked
+unfolding Longest-run-law Valid-ask
 longest-run-law t h =
     let many = length-replicate {A = ℕ} 65536 0 in
     (same-threads t 65536 0 h, omega (arith, many), omega (arith, many))

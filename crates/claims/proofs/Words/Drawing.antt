@@ -158,8 +158,8 @@ module _ (t : Tree) (valid : Accepted t) (s : WordState) (room : Room s) (g : St
       let old = o .numbered root in
       let R = record-at t i (height t i) in
       let stands : 1 ≤ count R (rest (g .queue (ancestor t i (height t i)))) = rw e at (inv .threads i .stands (rw e (omega arith))) in
-      let behind : 1 ≤ count R (rest (g .queue 0)) = rw (ancestor-root t valid i h) at stands in
-      tickets-rest (w .statuses) (w .grant) (w .ticket) R (g .queue 0) (old .small) (root-short t valid g inv) (old .held) behind
+      let in-rest : 1 ≤ count R (rest (g .queue 0)) = rw (ancestor-root t valid i h) at stands in
+      tickets-rest (w .statuses) (w .grant) (w .ticket) R (g .queue 0) (old .small) (root-short t valid g inv) (old .held) in-rest
 
   pub watch-outcome : Represents t w g → g .stage i ≡ queued (height t i) → Outcome t g i 0 Watch (watch-row t i s)
   unfolding row-shown standing-shown entry-shown is-entry words-in low acts given taken-from ended-in change-shown change-firsts

@@ -51,8 +51,8 @@ module _ (t : Tree) (valid : Accepted t) (w : Words) (g : State) (i : ℕ) (h : 
   head : first (g .queue L) ≡ suc R
   head = inv .threads i .heads k first-there
 
-  behind : first (rest (g .queue L)) ≡ suc r
-  behind =
+  head-of-rest : first (rest (g .queue L)) ≡ suc r
+  head-of-rest =
       let shape = first-rest R (g .queue L) head in
       let a : w .nexts R ≡ after (g .queue L) R = o .linked L nt .chain R (omega (arith, ap (count R) shape, count-cons R R (rest (g .queue L)), is-same R R refl)) (λ z. omega arith) in
       let b : after (g .queue L) R ≡ first (rest (g .queue L)) = ap (λ q. after q R) shape ∙ after-here R R (rest (g .queue L)) refl in
@@ -62,7 +62,7 @@ module _ (t : Tree) (valid : Accepted t) (w : Words) (g : State) (i : ℕ) (h : 
   rest-two = rest (rest (g .queue L))
 
   shape-two : g .queue L ≡ R ∷ r ∷ rest-two
-  shape-two = first-rest R (g .queue L) head ∙ ap (λ q. R ∷ q) (first-rest r (rest (g .queue L)) behind)
+  shape-two = first-rest R (g .queue L) head ∙ ap (λ q. R ∷ q) (first-rest r (rest (g .queue L)) head-of-rest)
 
   successor : Second t g L r
   successor = second t g inv L R r rest-two shape-two

@@ -73,13 +73,13 @@ unfolding after
 after-past a x xs h = let e = ne-eqb a x h in rw e
 
 -- a member after another is not the first
-pub after-behind : (xs : List ℕ) (a b : ℕ) → after xs a ≡ suc b → 1 ≤ count b (rest xs)
+pub after-counted : (xs : List ℕ) (a b : ℕ) → after xs a ≡ suc b → 1 ≤ count b (rest xs)
 unfolding rest
-after-behind [] a b e = absurd (omega (arith, after-nil a))
-after-behind (x ∷ xs) a b e =
+after-counted [] a b e = absurd (omega (arith, after-nil a))
+after-counted (x ∷ xs) a b e =
     same-or a x (1 ≤ count b xs)
     (λ z. first-in b xs (sym (after-here a x xs z) ∙ e))
-    (λ n. let h = after-behind xs a b (sym (after-past a x xs n) ∙ e) in omega (arith, count-rest b xs))
+    (λ n. let h = after-counted xs a b (sym (after-past a x xs n) ∙ e) in omega (arith, count-rest b xs))
 
 -- a member with another after it is in the queue
 pub after-in : (xs : List ℕ) (a b : ℕ) → after xs a ≡ suc b → 1 ≤ count a xs
@@ -127,5 +127,5 @@ unfolding rest
 before-second p x r ys e c =
     same-or p x _ (λ z. z)
     (λ n.
-    let k = after-behind (r ∷ ys) p r (sym (after-past p x (r ∷ ys) n) ∙ e) in
+    let k = after-counted (r ∷ ys) p r (sym (after-past p x (r ∷ ys) n) ∙ e) in
     absurd (omega (arith, count-cons r x (r ∷ ys), count-cons r r ys, is-same r r refl)))

@@ -160,24 +160,24 @@ module _ (t : Tree) (valid : Accepted t) (s : WordState) (room : Room s) (g : St
 
   -- A SECOND: it becomes the first
   module _ (r : ℕ) (ys : List ℕ) (shape : g .queue L ≡ R ∷ r ∷ ys) where
-    behind : Second t g L r
-    behind = second t g inv L R r ys shape
+    successor : Second t g L r
+    successor = second t g inv L R r ys shape
 
     abbrev S : ℕ
-    S = behind .thread
+    S = successor .thread
 
     abbrev N : ℕ
-    N = behind .index
+    N = successor .index
 
     S-stands : g .stage i ≢ queued N
     unfolding low acts
     S-stands z = firm (height t i) N (g .stage i) z (rw e refl)
 
     S-other : S ≢ i
-    S-other z = S-stands (ap (g .stage) (sym z) ∙ behind .waits)
+    S-other z = S-stands (ap (g .stage) (sym z) ∙ successor .waits)
 
     root-S : ancestor t S N ≡ 0
-    root-S = behind .place ∙ there
+    root-S = successor .place ∙ there
 
     -- it is in Watch, since a ticket root has no other place to wait
     record Watches : Type 0 where
@@ -187,12 +187,12 @@ module _ (t : Tree) (valid : Accepted t) (s : WordState) (room : Room s) (g : St
 
     S-watches : Watches
     unfolding words-in good-place
-    S-watches = by (ungranted N (behind .waits) (o .others S (behind .real) S-other))
+    S-watches = by (ungranted N (successor .waits) (o .others S (successor .real) S-other))
       where
         by : Ungranted t w g S N (w .places S) → Watches
         by (linking q p d a z) = absurd (false≢true (sym d ∙ ticket-yes t (ancestor t S N) ticket root-S))
         by (waiting q p f a z) =
-            let there-good : good-place t S (Wait (ancestor t S N)) ≡ true = rw p at (good S (behind .real)) in
+            let there-good : good-place t S (Wait (ancestor t S N)) ≡ true = rw p at (good S (successor .real)) in
             absurd (false≢true (sym (queue-facts t S (ancestor t S N) there-good .1) ∙ ticket-yes t (ancestor t S N) ticket root-S))
         by (watching p n q f) = record { watching-there = p; at-top = n; counted = f }
 
@@ -204,14 +204,14 @@ module _ (t : Tree) (valid : Accepted t) (s : WordState) (room : Room s) (g : St
     shown-ticket = all-held .1 .0
 
     r-small : r < 320
-    r-small = rw (behind .mine) at (record-small t valid S (behind .real) N (behind .within))
+    r-small = rw (successor .mine) at (record-small t valid S (successor .real) N (successor .within))
 
     S-record : own-record t S 0 ≡ r
-    S-record = root-record t valid S (behind .real) ∙ ap (record-at t S) (sym (S-watches .at-top)) ∙ behind .mine
+    S-record = root-record t valid S (successor .real) ∙ ap (record-at t S) (sym (S-watches .at-top)) ∙ successor .mine
 
     r-watched : is-watched t s r ≡ true
     unfolding is-watched is-watch
-    r-watched = any-found (t .threads) _ S (behind .real) (rw (S-watches .watching-there, eq-eqb (own-record t S 0) r S-record))
+    r-watched = any-found (t .threads) _ S (successor .real) (rw (S-watches .watching-there, eq-eqb (own-record t S 0) r S-record))
 
     -- the others after it have other tickets
     only-r : (x : ℕ) → x ≢ r → is-shown x ≡ true → _≡_ {A = ℕ} 0 1
@@ -238,10 +238,10 @@ module _ (t : Tree) (valid : Accepted t) (s : WordState) (room : Room s) (g : St
     first-there = omega (arith, low-i)
 
     abbrev handed-state : State
-    handed-state = hand.handed-state t valid w g i h o k (omega arith) first-there r ys shape behind (suc (g .tally R)) ready S-stands
+    handed-state = hand.handed-state t valid w g i h o k (omega arith) first-there r ys shape successor (suc (g .tally R)) ready S-stands
 
     handed : Move t g (moves.ends L r) handed-state
-    handed = hands-on t g i k S N r ys (behind .waits) (behind .place) (behind .mine) shape e (omega arith) (λ n. absurd (n there))
+    handed = hands-on t g i k S N r ys (successor .waits) (successor .place) (successor .mine) shape e (omega arith) (λ n. absurd (n there))
 
     handed-numbered : t .ticket-root ≡ true → Numbered raised-words (handed-state .queue 0)
     unfolding Tickets
@@ -251,7 +251,7 @@ module _ (t : Tree) (valid : Accepted t) (s : WordState) (room : Room s) (g : St
     handed-over : Represents t raised-words handed-state
     unfolding words-in
     handed-over =
-        hand.hand t valid w g i h o k (omega arith) first-there r ys shape behind (suc (g .tally R)) ready S-stands raised-words (put-same (w .places) i (done-at t i k) i refl)
+        hand.hand t valid w g i h o k (omega arith) first-there r ys shape successor (suc (g .tally R)) ready S-stands raised-words (put-same (w .places) i (done-at t i k) i refl)
         (λ j n. put-other (w .places) i (done-at t i k) j n) (λ q n. refl) (λ q. refl) (λ d. refl) (keeps t (laws t valid) g inv handed) (kept-linked handed-state (r ∷ ys) refl)
         handed-numbered c (S-watches .counted)
         (λ f. rw (S-watches .watching-there) (at-shown ticket (λ m b q. f m (omega (arith, S-watches .at-top)) q)))

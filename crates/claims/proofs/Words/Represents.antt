@@ -29,7 +29,7 @@ pub record Linked (w : Words) (q : List ℕ) (d : ℕ) : Type 0 where
   pub chain : (a : ℕ) → 1 ≤ count a q → w .nexts a ≢ 0 → w .nexts a ≡ after q a
 
 -- a ticket lock in words: the members hold consecutive tickets from the grant on, and the ticket counter is one after the last
-unfoldable pub Tickets : (statuses : ℕ → ℕ) → (from behind : ℕ) → List ℕ → Type 0
+unfoldable pub Tickets : (statuses : ℕ → ℕ) → (from end : ℕ) → List ℕ → Type 0
 Tickets f v b [] = b ≡ v
 Tickets f v b (m ∷ ms) = (f m ≡ v) × Tickets f (wrap (v + 1)) b ms
 

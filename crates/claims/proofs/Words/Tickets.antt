@@ -73,19 +73,19 @@ tickets-after f v b (x ∷ xs) s h = tickets-after f _ b xs (wrap-fits (v + 1)) 
 
 -- a member's ticket is as far after the grant as the member is after the first
 pub record Held (f : ℕ → ℕ) (v a : ℕ) (q : List ℕ) : Type 0 where
-  pub behind : ℕ
-  pub within : behind < length q
-  pub ticket : f a ≡ wrap (v + behind)
+  pub distance : ℕ
+  pub within : distance < length q
+  pub ticket : f a ≡ wrap (v + distance)
 
 pub tickets-held : (f : ℕ → ℕ) (v b a : ℕ) (q : List ℕ) → v < 65536 → Tickets f v b q → 1 ≤ count a q → Held f v a q
 unfolding Tickets
 tickets-held f v b a [] s h c = absurd (omega (arith, count-nil a))
 tickets-held f v b a (x ∷ xs) s h c =
     same-or a x _
-    (λ e. record { behind = 0; within = omega arith; ticket = ap f e ∙ h .0 ∙ (let z : v ≡ wrap (v + 0) = omega arith in z) })
+    (λ e. record { distance = 0; within = omega arith; ticket = ap f e ∙ h .0 ∙ (let z : v ≡ wrap (v + 0) = omega arith in z) })
     (λ e.
     let r = tickets-held f _ b a xs (wrap-fits (v + 1)) (h .1) (omega (arith, count-cons a x xs, is-other a x e)) in
-    record { behind = suc (r .behind); within = omega (arith, r .within); ticket = r .ticket ∙ next-wrap v (r .behind) })
+    record { distance = suc (r .distance); within = omega (arith, r .within); ticket = r .ticket ∙ next-wrap v (r .distance) })
 
 pub tickets-first : (f : ℕ → ℕ) (v b a : ℕ) (q : List ℕ) → Tickets f v b q → first q ≡ suc a → f a ≡ v
 unfolding Tickets
@@ -99,4 +99,4 @@ tickets-rest f v b a [] s l h c = absurd (omega (arith, ap (count a) rest-nil, c
 tickets-rest f v b a (x ∷ xs) s l h c =
     let r = tickets-held f (wrap (v + 1)) b a xs (wrap-fits (v + 1)) (h .1) (rw (rest-cons x xs) at c) in
     let few = r .within in
-    λ e. wrap-other v (suc (r .behind)) s (omega arith) (omega arith) (sym (r .ticket ∙ next-wrap v (r .behind)) ∙ e)
+    λ e. wrap-other v (suc (r .distance)) s (omega arith) (omega arith) (sym (r .ticket ∙ next-wrap v (r .distance)) ∙ e)

@@ -43,7 +43,7 @@ module _ (t : Tree) (valid : Accepted t) (i : ℕ) (h : i < t .threads) (d : ℕ
       by true false p q = refl
       by true true p q =
           let f = child-facts t d c p in
-          absurd (true≢false (sym (on-path-parent t valid i h c (f .no-root) q) ∙ ap (on-path t i) (f .hangs) ∙ e))
+          absurd (true≢false (sym (on-path-parent t valid i h c (f .no-root) q) ∙ ap (on-path t i) (f .its-child) ∙ e))
 
   -- exactly one child of a domain on the path is on the path
   on : (k : ℕ) → k ≤ height t i → ancestor t i k ≡ d → children-sum t d (λ c. one-if (on-path t i c)) ≡ 1
@@ -62,7 +62,7 @@ module _ (t : Tree) (valid : Accepted t) (i : ℕ) (h : i < t .threads) (d : ℕ
           let f = child-facts t d c p in
           let o = path-index t valid i h c q in
           let m = ancestor-not-root t valid i h (o .index) (o .within) (omega (arith, o .there, f .no-root)) in
-          let up : ancestor t i (suc (o .index)) ≡ ancestor t i (suc k) = sym (ancestor-parent-of t valid i h (o .index) m) ∙ ap (t .parent) (o .there) ∙ f .hangs ∙ sym e in
+          let up : ancestor t i (suc (o .index)) ≡ ancestor t i (suc k) = sym (ancestor-parent-of t valid i h (o .index) m) ∙ ap (t .parent) (o .there) ∙ f .its-child ∙ sym e in
           let same = ancestor-injective t valid i h (suc (o .index)) (suc k) m l up in
           let z : o .index ≡ k = omega arith in
           absurd (n (sym (o .there) ∙ ap (ancestor t i) z))

@@ -133,7 +133,7 @@ module _ (t : Tree) (valid : Accepted t) (bits : Sixteen-bit t) (d : ℕ) (pos :
       (λ b.
       let top : low (height t i) (g .stage i) ≡ a .index = omega (arith, acts-low (height t i) (g .stage i), a .acting) in
       let stands = inv .threads i .stands (omega (arith, a .acting)) in
-      let behind : 1 ≤ count M (rest (g .queue D)) = rw (top, a .mine, a .place) at stands in
+      let in-rest : 1 ≤ count M (rest (g .queue D)) = rw (top, a .mine, a .place) at stands in
       absurd (omega (arith, first-count M (g .queue D) f, inv .once D M)))
 
   leaf-both : (q : is-leaf t d ≡ true) (s : WordState) (n e l : ℕ) → Tracked t valid bits d pos real s n e l → (e ≤ n * l) × (n ≤ e + 1)

@@ -36,7 +36,7 @@ use Rattle.claims.proofs.Claims.Reached.{Queued, outcome-at, queued-aft
 use Rattle.claims.proofs.tenures.Firsts.{P, R}
 use Rattle.claims.proofs.tenures.LeafTenures.{leaf-index, home-height, Leaf}
 use Rattle.claims.proofs.tenures.Along.{started-along, Passes, leaf-along, leaf-wider, entered-shown}
-use Rattle.claims.proofs.tenures.Telling.{tenure-word, row-reports}
+use Rattle.claims.proofs.tenures.Reporting.{tenure-word, row-reports}
 
 module _ (t : Tree) (valid : Accepted t) (bits : Sixteen-bit t) (d : ℕ) (pos : 0 < d) (real : d < t .domains) where
   -- what holds after some steps with n tenures, e entries and longest tenure l

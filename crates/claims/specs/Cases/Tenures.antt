@@ -27,8 +27,8 @@ abbrev pub case : TreeWords → (start : ℕ) → (schedule : List ℕ) → (dom
 case w v is d e n l = record { tree-words = w; start = v; schedule = is; domain = d; entries = e; tenures = n; longest = l }
 
 -- whether a case holds
-unfoldable pub counted-so : Case → Bool
-counted-so c =
+unfoldable pub holds : Case → Bool
+holds c =
     let t = tree-of (c .tree-words) in
     let xs = steps t (c .schedule) (fresh-state t (c .start)) in
     eqb (domain-entries t (c .domain) xs) (c .entries) && (eqb (domain-tenures t (c .domain) xs) (c .tenures) && eqb (longest-tenure t (c .domain) xs) (c .longest))
@@ -36,7 +36,7 @@ counted-so c =
 -- whether every case of a list holds
 unfoldable pub all-counted : List Case → Bool
 all-counted [] = true
-all-counted (c ∷ cs) = counted-so c && all-counted cs
+all-counted (c ∷ cs) = holds c && all-counted cs
 
 -- a leaf below the root, threshold 3, with threads 0 and 1
 unfoldable pub two-threads : TreeWords

@@ -18,7 +18,7 @@ use Rattle.model.specs.Calls.{one-step, a-run, Call, asked-entries, joined, Nam
 use Rattle.model.specs.Cases.Marked.{two-homes}
 use Rattle.model.specs.Cases.Counters.{one-pass}
 use Rattle.model.specs.Cases.Claim.{call, mixed-calls, mixed-schedule}
-use Rattle.claims.specs.Reached.{last-state, Well-asked}
+use Rattle.claims.specs.Reached.{last-state, Valid-ask}
 
 -- a call after the list of mixed calls: the longest run that is allowed, on the list's tree
 abbrev pub longest-call : Call
@@ -28,7 +28,7 @@ pub record Call-meets : Type 0 where
   pub fresh : fresh-answer two-homes 0 .number ≡ 0
   pub names : Names (tree-of two-homes) mixed-calls (fresh-answer two-homes 0 .state)
   pub same-tree : tree-of (longest-call .tree) ≡ tree-of two-homes
-  pub asks : Well-asked (tree-of two-homes) (longest-call .ask)
+  pub asks : Valid-ask (tree-of two-homes) (longest-call .ask)
   pub room : length (joined mixed-calls (fresh-answer two-homes 0 .state)) + length (asked-entries (longest-call .ask)) ≤ most-counted
   pub stretches : Stretches (tree-of two-homes) fresh-lock mixed-schedule 0 mixed-calls
 

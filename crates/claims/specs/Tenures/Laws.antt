@@ -1,4 +1,4 @@
--- Document 02, (vii): what holds of a domain's entries, tenures and longest tenure, as the steps tell them, and of the counters in a lock's state.
+-- Document 02, (vii): what holds of a domain's entries, tenures and longest tenure, as the steps report them, and of the counters in a lock's state.
 use mathlib.Core.Path.{_≡_}
 use mathlib.Core.Bool.{true, false, cond}
 use mathlib.Core.List.{List}
@@ -47,7 +47,7 @@ unfoldable pub Tenure-law : Type 0
 Tenure-law =
     (t : Tree) (start : ℕ) (is : List ℕ) → Fresh-run t is → (d : ℕ) → 0 < d → d < t .domains → Has-tenures t (steps t is (fresh-state t start)) d
 
--- IN A LOCK'S STATE. The state that a list of calls on a fresh lock returns holds what the steps of the list's schedule tell
+-- IN A LOCK'S STATE. The state that a list of calls on a fresh lock returns holds what the steps of the list's schedule report
 pub record Counters-hold (t : Tree) (xs : List Step) (c : Counters) : Type 0 where
   pub entries : (d : ℕ) → d < 64 → getD (c .entries) d 0 ≡ domain-entries t d xs
   pub tenures : (d : ℕ) → d < 64 → getD (c .tenures) d 0 ≡ domain-tenures t d xs

@@ -25,7 +25,7 @@ use Rattle.refusals.specs.StateCheck.Laws.{Check-refusal-law, Accepted-law}
 use Rattle.refusals.proofs.state_check.Checking.{check-refusal-law, accepted-law}
 use Rattle.journal.specs.declared.step_check.StepsReply.{StepsReply}
 use Rattle.journal.specs.StepCheck.Answers.{early-refusal, Checked, checked, replied, refused, steps-answer}
-use Rattle.journal.specs.StepCheck.Laws.{Early-law, Of-the-table, after-first, Refused-at, Exactly-law, State-law, Taken-up, Taken-up-law, Pieces-law}
+use Rattle.journal.specs.StepCheck.Laws.{Early-law, Of-the-table, after-first, Refused-at, Exactly-law, State-law, Acceptable, Returned-state-law, Pieces-law}
 use Rattle.journal.proofs.step_check.Checking.{after-none, number-at, all-right, stops-at, shifted, then-checked, checked-join}
 use Rattle.journal.proofs.step_check.Keeping.{checked-kept, checked-full, checked-few}
 use Rattle.journal.proofs.step_check.Early.{exactly, early-passes, lengths-pass}
@@ -92,9 +92,9 @@ module _ (w : TreeWords) (s : LockState) (is ks ds : List ℕ) (z : early-refusa
       by : Outcome (tree-of w) s is ks ds → Refused-at (tree-of w) s is ks ds n p
       by (all g f) = absurd (q (sym (e .0) ∙ number-is ∙ ap (λ v. v .number) f))
       by (first-wrong m h g v f) =
-          let told = stopped-at _ m v f in
-          let at : p ≡ m = sym (e .1) ∙ told .1 in
-          let same : number-at (tree-of w) s is ks ds m ≡ n = sym (told .0) ∙ e .0 in
+          let stopped = stopped-at _ m v f in
+          let at : p ≡ m = sym (e .1) ∙ stopped .1 in
+          let same : number-at (tree-of w) s is ks ds m ≡ n = sym (stopped .0) ∙ e .0 in
           rw at
           (record {
             within = h;
@@ -170,12 +170,12 @@ module _ (w : TreeWords) (s : LockState) (is ks ds : List ℕ) (f : Formed (tree
   unfolding check-refusal Check-refusal-law Accepted-law
   facts = accepted-law (tree-of w) s .0 (check-refusal-law (tree-of w) s .zero-accepted (early-passes (tree-of w) s is ks ds z .0))
 
-  kept : Taken-up (tree-of w) (checked (tree-of w) s is ks ds .state)
+  kept : Acceptable (tree-of w) (checked (tree-of w) s is ks ds .state)
   kept =
       let k = checked-kept (tree-of w) (facts .0) (sixteen-bit w) s is ks ds (record { form = f; counts = facts .2 }) in
       record { form = k .form; counts = k .counts }
 
-  pub taken : Taken-up (tree-of w) (steps-answer w s is ks ds .state)
+  pub taken : Acceptable (tree-of w) (steps-answer w s is ks ds .state)
   taken = rw (checked-late w s is ks ds z) kept
 
   -- so the next check refuses nothing before its steps if its lists have the same length
@@ -197,9 +197,9 @@ module _ (w : TreeWords) (s : LockState) (is ks ds : List ℕ) (f : Formed (tree
       (omega (arith, length-append ks ks′, length-append is is′, l .1 .0)) (omega (arith, length-append ds ds′, length-append is is′, l .1 .1)))
       ∙ accepted-number
 
-pub taken-up-law : Taken-up-law
-unfolding Taken-up-law
-taken-up-law w s is ks ds f z = taken w s is ks ds f z
+pub returned-state-law : Returned-state-law
+unfolding Returned-state-law
+returned-state-law w s is ks ds f z = taken w s is ks ds f z
 
 -- PIECES
 module _ (w : TreeWords) (s : LockState) (is ks ds is′ ks′ ds′ : List ℕ) (f : Formed (tree-of w) (s .words)) (z : early-refusal (tree-of w) s is ks ds .number ≡ 0) (a : length ks′ ≡ length is′) (b : length ds′ ≡ length is′) where

@@ -100,15 +100,15 @@ unfoldable pub State-law : Type 0
 State-law = (w : TreeWords) (s : LockState) (threads kinds domains : List ℕ) → Leaves w s threads kinds domains
 
 -- the next call accepts this state: it is well formed, with good counters
-pub record Taken-up (t : Tree) (s : LockState) : Type 0 where
+pub record Acceptable (t : Tree) (s : LockState) : Type 0 where
   pub form : Formed t (s .words)
   pub counts : good-counts t (s .counters) ≡ true
 
 -- for every call on a well-formed state that is not refused before the steps
-unfoldable pub Taken-up-law : Type 0
-Taken-up-law =
+unfoldable pub Returned-state-law : Type 0
+Returned-state-law =
     (w : TreeWords) (s : LockState) (threads kinds domains : List ℕ) → Formed (tree-of w) (s .words) →
-    early-refusal (tree-of w) s threads kinds domains .number ≡ 0 → Taken-up (tree-of w) (steps-answer w s threads kinds domains .state)
+    early-refusal (tree-of w) s threads kinds domains .number ≡ 0 → Acceptable (tree-of w) (steps-answer w s threads kinds domains .state)
 
 -- 4. PIECES. Two lists of named steps, the second checked from the state that the first check returned. If the first is refused, the whole is refused in the same way; if it is accepted, the whole answers what the second does, with the place shifted
 pub record Pieces (w : TreeWords) (s : LockState) (threads kinds domains threads′ kinds′ domains′ : List ℕ) : Type 0 where

@@ -32,9 +32,9 @@ one-size bs vs p n v s l f =
 -- an entry with at least four bytes left, from what is read of it
 module _ (bs : List ℕ) (p b m : ℕ) (left : p + 4 ≤ length bs) (here : m ≡ getD bs p 0) where
   pub entry-read :
-      (i k behind : ℕ) → m ≤ 3 → i ≡ entry-thread bs p b m → k ≡ entry-kind bs p m → behind ≡ p + entry-size m →
-      entry-at bs p b ≡ Named i k behind
-  entry-read i k behind h e f g = rw (e, f, g) (whole-entry bs p b m (omega arith) (sym here) h (omega arith))
+      (i k next : ℕ) → m ≤ 3 → i ≡ entry-thread bs p b m → k ≡ entry-kind bs p m → next ≡ p + entry-size m →
+      entry-at bs p b ≡ Named i k next
+  entry-read i k next h e f g = rw (e, f, g) (whole-entry bs p b m (omega arith) (sym here) h (omega arith))
 
   pub no-entry : 3 < m → entry-at bs p b ≡ Broken
   no-entry h = rw (lt-ltb p (length bs) (omega arith), ← here, lt-ltb 3 m h)

@@ -37,9 +37,9 @@ module _ (known : ℕ) (bs : List ℕ) where
       record { new-threads = []; new-kinds = []; read = none-read; threads-stored = refl; kinds-stored = refl; counted = omega arith; threads-fit = h; kinds-fit = g }
 
   -- one entry is read
-  pub one : (p b : ℕ) (is ks : List ℕ) (n i k behind : ℕ) → n < length is → n < length ks → entry-at bs p b ≡ Named i k behind → i < known →
-      Read-on known bs p b is ks n (set is n i) (set ks n k) (n + 1) behind i
-  one p b is ks n i k behind h g e f =
+  pub one : (p b : ℕ) (is ks : List ℕ) (n i k next : ℕ) → n < length is → n < length ks → entry-at bs p b ≡ Named i k next → i < known →
+      Read-on known bs p b is ks n (set is n i) (set ks n k) (n + 1) next i
+  one p b is ks n i k next h g e f =
       record {
         new-threads = i ∷ [];
         new-kinds = k ∷ [];
@@ -88,17 +88,17 @@ module _ (known : ℕ) (bs : List ℕ) where
   pub broken : (n p b end : ℕ) → entry-at bs p b ≡ Broken → Stopped-before known bs end (piece-of n p b 25)
   broken n p b end e = record { stops = for-broken e; full = λ z. absurd (omega arith) }
 
-  pub unknown : (n p b end i k behind : ℕ) → entry-at bs p b ≡ Named i k behind → known ≤ i → Stopped-before known bs end (piece-of n p b 12)
-  unknown n p b end i k behind e h = record { stops = for-thread e h; full = λ z. absurd (omega arith) }
+  pub unknown : (n p b end i k next : ℕ) → entry-at bs p b ≡ Named i k next → known ≤ i → Stopped-before known bs end (piece-of n p b 12)
+  unknown n p b end i k next e h = record { stops = for-thread e h; full = λ z. absurd (omega arith) }
 
   pub reached : (n p b end : ℕ) → end ≤ n → Stopped-before known bs end (piece-of n p b 0)
   reached n p b end h = record { stops = for-room; full = λ z l. h }
 
 -- POSITIONS after one more entry, or none
 pub position-next :
-    (n : ℕ) (bs : List ℕ) (p b i k behind : ℕ) → entry-at bs p b ≡ Named i k behind → position-after (suc n) bs p b ≡ position-after n bs behind i
+    (n : ℕ) (bs : List ℕ) (p b i k next : ℕ) → entry-at bs p b ≡ Named i k next → position-after (suc n) bs p b ≡ position-after n bs next i
 unfolding position-after
-position-next n bs p b i k behind e = ap (λ x. position-by x p (λ q j. position-after n bs q j)) e
+position-next n bs p b i k next e = ap (λ x. position-by x p (λ q j. position-after n bs q j)) e
 
 pub position-broken : (n : ℕ) (bs : List ℕ) (p b : ℕ) → entry-at bs p b ≡ Broken → position-after n bs p b ≡ p
 unfolding position-after

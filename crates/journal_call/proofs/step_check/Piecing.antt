@@ -29,7 +29,7 @@ use Rattle.rows.specs.Common.Standing.{row-domain}
 use Rattle.refusals.specs.Lowest.{Lowest}
 use Rattle.lock.specs.Steps.Running.{step-code, codes-front}
 use Rattle.lock.proofs.steps.StepCodes.{code-kind, domain-of-code}
-use Rattle.lock.proofs.steps.Telling.{reported-front-length}
+use Rattle.lock.proofs.steps.Reporting.{reported-front-length}
 use Rattle.journal.specs.StepCheck.Answers.{checked}
 use Rattle.journal.specs.StepCheck.Laws.{after-first}
 use Rattle.journal.proofs.step_check.Checking.{above-at, number-26, number-29, number-0, number-at, Right, all-right, stops-at}
@@ -70,14 +70,14 @@ module _ (w : TreeWords) (s : LockState) (is ks ds : List ℕ) (g : Ready (tree-
   unfolding tree-of
   small j h = omega (arith, S .known j h, few-threads w (g .tree))
 
-  module _ (ks-long : length ks ≡ length is) (ds-long : length ds ≡ length is) (codes₀ codes : List ℕ) (room : length codes₀ ≡ 1024) (few : length is ≤ 1024) (told : codes ≡ codes-front codes₀ (steps t (take (st .steps) is) (s .words))) where
+  module _ (ks-long : length ks ≡ length is) (ds-long : length ds ≡ length is) (codes₀ codes : List ℕ) (room : length codes₀ ≡ 1024) (few : length is ≤ 1024) (reported : codes ≡ codes-front codes₀ (steps t (take (st .steps) is) (s .words))) where
     pub comparable : Comparable is ks ds codes (st .steps)
     comparable =
         record {
           threads-long = S .within;
           kinds-long = omega (arith, S .within, ks-long);
           domains-long = omega (arith, S .within, ds-long);
-          codes-long = omega (arith, S .within, few, room, ap length told, reported-front-length codes₀ (steps t (take (st .steps) is) (s .words)));
+          codes-long = omega (arith, S .within, few, room, ap length reported, reported-front-length codes₀ (steps t (take (st .steps) is) (s .words)));
           small = small;
         }
 
@@ -92,7 +92,7 @@ module _ (w : TreeWords) (s : LockState) (is ks ds : List ℕ) (g : Ready (tree-
 
         code : getD codes j 0 ≡ step-code x
         unfolding lock-after
-        code = ap (λ v. getD v j 0) told ∙ code-at codes₀ t is (s .words) (st .steps) j h (S .within) (omega (arith, S .within, few, room))
+        code = ap (λ v. getD v j 0) reported ∙ code-at codes₀ t is (s .words) (st .steps) j h (S .within) (omega (arith, S .within, few, room))
 
         formed : Formed t (before .words)
         unfolding Form-law lock-after run run-of

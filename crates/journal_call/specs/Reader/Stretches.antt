@@ -10,28 +10,28 @@ use Rattle.journal.specs.Reading.{entry-at}
 use Rattle.journal_call.specs.declared.reader.Piece.{Piece}
 
 -- what follows an entry that is named; otherwise the position itself
-abbrev pub position-by : Entry → (position : ℕ) → (then : (behind thread : ℕ) → ℕ) → ℕ
-position-by (Named i k behind) p f = f behind i
+abbrev pub position-by : Entry → (position : ℕ) → (then : (next thread : ℕ) → ℕ) → ℕ
+position-by (Named i k next) p f = f next i
 position-by Broken p f = p
 position-by End p f = p
 
 -- the position after a number of entries; if there are fewer, after the last of them
 unfoldable pub position-after : (count : ℕ) → (bytes : List ℕ) → (position before : ℕ) → ℕ
 position-after zero bs p b = p
-position-after (suc n) bs p b = position-by (entry-at bs p b) p (λ behind i. position-after n bs behind i)
+position-after (suc n) bs p b = position-by (entry-at bs p b) p (λ next i. position-after n bs next i)
 
 -- consecutive entries, each of a known thread: their threads and kinds, the position after them, the thread of the last
 pub data Stretch (known : ℕ) (bytes : List ℕ) : (position before : ℕ) → (threads kinds : List ℕ) → (end last : ℕ) → Type 0 where
   none-read : {p b : ℕ} → Stretch known bytes p b [] [] p b
   one-read :
-      {p b i k behind end last : ℕ} {is ks : List ℕ} → entry-at bytes p b ≡ Named i k behind → i < known →
-      Stretch known bytes behind i is ks end last → Stretch known bytes p b (i ∷ is) (k ∷ ks) end last
+      {p b i k next end last : ℕ} {is ks : List ℕ} → entry-at bytes p b ≡ Named i k next → i < known →
+      Stretch known bytes next i is ks end last → Stretch known bytes p b (i ∷ is) (k ∷ ks) end last
 
 -- why reading stops: 0 if there is no more space; 25 if the entry at the position is cut off or has another bit set; 12 if its thread is unknown
 pub data Stops (known : ℕ) (bytes : List ℕ) (position before : ℕ) : (number : ℕ) → Type 0 where
   for-room : Stops known bytes position before 0
   for-broken : entry-at bytes position before ≡ Broken → Stops known bytes position before 25
-  for-thread : {i k behind : ℕ} → entry-at bytes position before ≡ Named i k behind → known ≤ i → Stops known bytes position before 12
+  for-thread : {i k next : ℕ} → entry-at bytes position before ≡ Named i k next → known ≤ i → Stops known bytes position before 12
 
 -- consecutive entries read from a position on; their threads and kinds are stored in two arrays from an index on
 pub record Read-on (known : ℕ) (bytes : List ℕ) (position before : ℕ) (threads₀ kinds₀ : List ℕ) (from : ℕ) (threads kinds : List ℕ) (count end last : ℕ) : Type 0 where

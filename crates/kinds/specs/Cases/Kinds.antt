@@ -29,8 +29,8 @@ pub record Case : Type 0 where
   pub after : List ℕ
 
 -- accepted from a state with these words, with these rows at the front of a buffer of sevens and three numbers after them
-unfoldable pub told : TreeWords → State → (schedule rows : List ℕ) → Case
-told w s is xs =
+unfoldable pub accepted-with : TreeWords → State → (schedule rows : List ℕ) → Case
+accepted-with w s is xs =
     record {
       words = w;
       state = uncounted s;
@@ -60,14 +60,14 @@ full-entries = lock-state fresh-words (record { entries = set (replicate 64 0) 1
 unfoldable pub cases : List Case
 cases =
     -- thread 0 enters through its home and the root, thread 1 waits after it at home, 0 passes the lock on, and 1 enters and leaves
-    told two-homes fresh-words (replicate 4 0 ++ replicate 4 1 ++ replicate 3 0 ++ replicate 2 1)
+    accepted-with two-homes fresh-words (replicate 4 0 ++ replicate 4 1 ++ replicate 3 0 ++ replicate 2 1)
     (1 ∷ 1 ∷ 1 ∷ 1 ∷ 1 ∷ 0 ∷ 2 ∷ 0 ∷ 1 ∷ 1 ∷ 1 ∷ 1 ∷ 1 ∷ 1 ∷ 0 ∷ 1 ∷ 5 ∷ 1 ∷ 1 ∷ 1 ∷ 1 ∷ 1 ∷ 3 ∷ 1 ∷ 5 ∷ 1 ∷ [])
     -- a crossed entry is at the domain between home and root; leaving is at home
-    ∷ told three-levels (run (tree-of three-levels) (replicate 6 0 ++ replicate 6 1 ++ replicate 4 0) fresh-words .state) (1 ∷ 1 ∷ []) (4 ∷ 1 ∷ 5 ∷ 3 ∷ [])
+    ∷ accepted-with three-levels (run (tree-of three-levels) (replicate 6 0 ++ replicate 6 1 ++ replicate 4 0) fresh-words .state) (1 ∷ 1 ∷ []) (4 ∷ 1 ∷ 5 ∷ 3 ∷ [])
     -- at a ticket root that is not home, Draw, Watch and Raise are at domain 0
-    ∷ told (at-ticket-root two-homes) fresh-words (0 ∷ 0 ∷ 0 ∷ 2 ∷ 2 ∷ 2 ∷ 2 ∷ []) (1 ∷ 1 ∷ 1 ∷ 1 ∷ 2 ∷ 0 ∷ 1 ∷ 2 ∷ 1 ∷ 2 ∷ 1 ∷ 0 ∷ 0 ∷ 0 ∷ [])
+    ∷ accepted-with (at-ticket-root two-homes) fresh-words (0 ∷ 0 ∷ 0 ∷ 2 ∷ 2 ∷ 2 ∷ 2 ∷ []) (1 ∷ 1 ∷ 1 ∷ 1 ∷ 2 ∷ 0 ∷ 1 ∷ 2 ∷ 1 ∷ 2 ∷ 1 ∷ 0 ∷ 0 ∷ 0 ∷ [])
     -- an empty schedule
-    ∷ told two-in-root fresh-words [] []
+    ∷ accepted-with two-in-root fresh-words [] []
     -- 28: one number too few, a buffer only as long as the schedule, and an empty one
     ∷ refused-with 28 two-in-root (0 ∷ 0 ∷ []) 2 3
     ∷ refused-with 28 two-in-root (0 ∷ 0 ∷ []) 2 2

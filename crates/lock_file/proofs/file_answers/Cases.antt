@@ -14,8 +14,8 @@ use Rattle.lock_file.specs.Reading.{reached-refusal, field-end, entry-en
 use Rattle.lock_file.specs.PrintedListing.Listing.{digits, numeral, number-then, trace-lines, spaced, first-line, listing}
 use Rattle.lock_file.specs.FileAnswers.FileAnswers.{listing-outcome, run-outcome, file-trace, file-outcome, outcome-reply, outcome-output, file-answer, output-answer}
 use Rattle.lock_file.specs.Cases.FileAnswers.{cases, parts, Every-part}
-use Rattle.lock_file.specs.FileAnswers.FileLaws.{met-numbers}
-use Rattle.lock_file.specs.Cases.FileAnswersWitnesses.{met-files, Numbers-met}
+use Rattle.lock_file.specs.FileAnswers.FileLaws.{possible-numbers}
+use Rattle.lock_file.specs.Cases.FileAnswersWitnesses.{numbered-files, Numbers-occur}
 use Rattle.lock_file.proofs.file_answers.Computing.{quick-refusal, quick-run, quick-reading, same-reading}
 
 pub cases-hold : all cases ≡ true
@@ -30,7 +30,7 @@ unfolding same-numbers any-below filter-below read-word tree-of is-ticket is-chi
 cases-hold = rw same-reading refl
 
 -- each number is the answer for its file
-pub numbers-met : Numbers-met
+pub numbers-occur : Numbers-occur
 unfolding same-numbers any-below filter-below read-word tree-of is-ticket is-child is-leaf depth-from depth level meets on-path child-from child own-record
     is-record is-member under place-of is-watch is-idle numbers-at store-numbers fresh-words is-kind is-entry prep-row swap-row link-row wait-row leave-row check-row help-row
     cas-row linger-row grant-row draw-row watch-row is-watched shown-members raise-row row step steps state-after how-many entering counts-of run-of run
@@ -38,8 +38,8 @@ unfolding same-numbers any-below filter-below read-word tree-of is-ticket is-chi
     bad-entry bad-room run-reply reached-refusal field-end entry-end domain-size domain-end parent-at threshold-at stored domains-from domains-read
     thread-end home-at threads-from threads-after threads-read thread-count schedule-start tree-read entries-from entries-at reading-of file-read digits
     numeral number-then trace-lines spaced first-line listing listing-outcome run-outcome file-trace quick-refusal quick-run quick-reading file-outcome
-    outcome-reply outcome-output file-answer output-answer Numbers-met met-files met-numbers
-numbers-met = rw same-reading refl
+    outcome-reply outcome-output file-answer output-answer Numbers-occur numbered-files possible-numbers
+numbers-occur = rw same-reading refl
 
 pub every-part : Every-part
 unfolding parts Every-part

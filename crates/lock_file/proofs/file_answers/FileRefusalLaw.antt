@@ -21,57 +21,57 @@ use Rattle.lock_file.specs.Reading.{reached-refusal, entries-at, tree-re
 use Rattle.lock_file.proofs.Positions.{entries-length}
 use Rattle.lock_file.specs.PrintedListing.Listing.{listing}
 use Rattle.lock_file.specs.FileAnswers.FileAnswers.{Outcome, refused-by, lists, listing-outcome, run-outcome, file-run, file-trace, reading-outcome, file-outcome, outcome-reply, file-answer}
-use Rattle.lock_file.specs.FileAnswers.FileLaws.{Met, File-refusal-law, met-numbers, Met-numbers-law}
-use Rattle.lock_file.proofs.file_answers.FileRunLaw.{Run-met, run-met}
+use Rattle.lock_file.specs.FileAnswers.FileLaws.{Possible, File-refusal-law, possible-numbers, Possible-numbers-law}
+use Rattle.lock_file.proofs.file_answers.FileRunLaw.{Run-possible, run-possible}
 
-abbrev Met-by : Outcome → Type 0
-Met-by o = Met (outcome-reply o .number)
+abbrev Possible-by : Outcome → Type 0
+Possible-by o = Possible (outcome-reply o .number)
 
-listing-met : (ls : List ℕ) (room : ℕ) → Met-by (listing-outcome ls room)
-unfolding listing-outcome outcome-reply refusal Met
-listing-met ls room =
-    by-test (λ o. Met-by o) (ltb room (length ls)) (refused-by (refusal 14 0)) (lists ls) (λ e. inr (inr (inr refl))) (λ e. inl (omega arith))
+listing-possible : (ls : List ℕ) (room : ℕ) → Possible-by (listing-outcome ls room)
+unfolding listing-outcome outcome-reply refusal Possible
+listing-possible ls room =
+    by-test (λ o. Possible-by o) (ltb room (length ls)) (refused-by (refusal 14 0)) (lists ls) (λ e. inr (inr (inr refl))) (λ e. inl (omega arith))
 
-refusal-met : (r : RunReply) → Run-met (r .number) → Met-by (refused-by (refusal (r .number) (r .place)))
-unfolding outcome-reply refusal Met
-refusal-met r (inl e) = inl (omega arith)
-refusal-met r (inr (inl h)) = inr (inl h)
-refusal-met r (inr (inr e)) = inr (inr (inl e))
+refusal-possible : (r : RunReply) → Run-possible (r .number) → Possible-by (refused-by (refusal (r .number) (r .place)))
+unfolding outcome-reply refusal Possible
+refusal-possible r (inl e) = inl (omega arith)
+refusal-possible r (inr (inl h)) = inr (inl h)
+refusal-possible r (inr (inr e)) = inr (inr (inl e))
 
-run-outcome-met :
-    (r : RunReply) (trace : List ℕ) (room : ℕ) → Run-met (r .number) → Met-by (run-outcome r trace room)
+run-outcome-possible :
+    (r : RunReply) (trace : List ℕ) (room : ℕ) → Run-possible (r .number) → Possible-by (run-outcome r trace room)
 unfolding run-outcome
-run-outcome-met r trace room h =
+run-outcome-possible r trace room h =
     let ls = listing (r .counts) trace in
-    by-test (λ o. Met-by o) (eqb (r .number) 0) (listing-outcome ls room) (refused-by (refusal (r .number) (r .place)))
-    (λ e. listing-met ls room) (λ e. refusal-met r h)
+    by-test (λ o. Possible-by o) (eqb (r .number) 0) (listing-outcome ls room) (refused-by (refusal (r .number) (r .place)))
+    (λ e. listing-possible ls room) (λ e. refusal-possible r h)
 
-reading-met :
-    (bs : List ℕ) (r : Reached) (w : TreeWords) (room : ℕ) → length bs ≤ 65536 → Met-by (reading-outcome (reading-of bs r w) room)
-unfolding reading-of reading-outcome reached-refusal refusal outcome-reply entries-at Met
-reading-met bs (At at) w room h =
+reading-possible :
+    (bs : List ℕ) (r : Reached) (w : TreeWords) (room : ℕ) → length bs ≤ 65536 → Possible-by (reading-outcome (reading-of bs r w) room)
+unfolding reading-of reading-outcome reached-refusal refusal outcome-reply entries-at Possible
+reading-possible bs (At at) w room h =
     let is = entries-at bs at in
     let short : length is ≤ 65536 = omega (arith, entries-length bs ((length bs - at) / 2) at) in
-    run-outcome-met (file-run w is) (file-trace w is) room (run-met w is short)
-reading-met bs Ended w room h = inl (omega arith)
-reading-met bs (BadMap p) w room h = inl (omega arith)
+    run-outcome-possible (file-run w is) (file-trace w is) room (run-possible w is short)
+reading-possible bs Ended w room h = inl (omega arith)
+reading-possible bs (BadMap p) w room h = inl (omega arith)
 
 pub file-refusal-law : File-refusal-law
-unfolding File-refusal-law file-answer file-outcome file-read outcome-reply refusal Met
+unfolding File-refusal-law file-answer file-outcome file-read outcome-reply refusal Possible
 file-refusal-law bs output =
     let o = reading-outcome (file-read bs) (length output) in
-    by-test (λ x. Met-by x) (ltb 65536 (length bs)) (refused-by (refusal 1 0)) o (λ e. inl (omega arith))
-    (λ e. reading-met bs (tree-read bs .reached) (tree-read bs .tree) (length output) (ltb-false 65536 (length bs) e))
+    by-test (λ x. Possible-by x) (ltb 65536 (length bs)) (refused-by (refusal 1 0)) o (λ e. inl (omega arith))
+    (λ e. reading-possible bs (tree-read bs .reached) (tree-read bs .tree) (length output) (ltb-false 65536 (length bs) e))
 
 -- WHICH NUMBERS: each is one of the list
 any-tree : Tree
 any-tree = record { domains = 0; threads = 0; parent = λ d. 0; threshold = λ d. 0; home = λ i. 0; ticket-root = false }
 
-listed : (n m : ℕ) → eqb m n ≡ true → 1 ≤ occurrences m met-numbers → 1 ≤ occurrences n met-numbers
+listed : (n m : ℕ) → eqb m n ≡ true → 1 ≤ occurrences m possible-numbers → 1 ≤ occurrences n possible-numbers
 listed n m e h = rw (← eqb-true m n e) h
 
-tree-listed : (n : ℕ) → has-number (tree-tests any-tree) n ≡ true → 1 ≤ occurrences n met-numbers
-unfolding has-number tree-tests occurrences met-numbers
+tree-listed : (n : ℕ) → has-number (tree-tests any-tree) n ≡ true → 1 ≤ occurrences n possible-numbers
+unfolding has-number tree-tests occurrences possible-numbers
 tree-listed n e =
     elim (or-cases (eqb 4 n) _ e) [
       | inl a ↦ listed n 4 a (omega arith)
@@ -96,15 +96,15 @@ tree-listed n e =
       ]
     ]
 
-same-listed : (n m : ℕ) → n ≡ m → 1 ≤ occurrences m met-numbers → 1 ≤ occurrences n met-numbers
+same-listed : (n m : ℕ) → n ≡ m → 1 ≤ occurrences m possible-numbers → 1 ≤ occurrences n possible-numbers
 same-listed n m e h = rw e h
 
-pub met-numbers-law : Met-numbers-law
-unfolding Met-numbers-law Met occurrences met-numbers
-met-numbers-law n (inl few) =
+pub possible-numbers-law : Possible-numbers-law
+unfolding Possible-numbers-law Possible occurrences possible-numbers
+possible-numbers-law n (inl few) =
     same-or n 0 _ (λ e. same-listed n 0 e (omega arith))
     (λ a. same-or n 1 _ (λ e. same-listed n 1 e (omega arith))
     (λ b. same-or n 2 _ (λ e. same-listed n 2 e (omega arith)) (λ c. same-listed n 3 (omega arith) (omega arith))))
-met-numbers-law n (inr (inl tree)) = tree-listed n (tree any-tree)
-met-numbers-law n (inr (inr (inl e))) = same-listed n 12 e (omega arith)
-met-numbers-law n (inr (inr (inr e))) = same-listed n 14 e (omega arith)
+possible-numbers-law n (inr (inl tree)) = tree-listed n (tree any-tree)
+possible-numbers-law n (inr (inr (inl e))) = same-listed n 12 e (omega arith)
+possible-numbers-law n (inr (inr (inr e))) = same-listed n 14 e (omega arith)

@@ -67,8 +67,8 @@ never-joined n [] ys g h = h
 never-joined n (x ∷ xs) ys g h = (g .0, never-joined n xs ys (g .1) h)
 
 -- the numbers that the file call's run answers: 0, those of the tree's tests, and 12
-abbrev pub Run-met : ℕ → Type 0
-Run-met n = (n ≡ 0) ⊎ (((t : Tree) → has-number (tree-tests t) n ≡ true) ⊎ (n ≡ 12))
+abbrev pub Run-possible : ℕ → Type 0
+Run-possible n = (n ≡ 0) ⊎ (((t : Tree) → has-number (tree-tests t) n ≡ true) ⊎ (n ≡ 12))
 
 -- the numbers do not depend on the tree
 same-numbers : (t u : Tree) (n : ℕ) → has-number (tree-tests t) n ≡ has-number (tree-tests u) n
@@ -77,9 +77,9 @@ same-numbers t u n = refl
 
 -- a run from a fresh lock, with a schedule that is short enough and a trace buffer long enough, is not refused by any other: 10, 11, 13 and 19 pass
 module _ (t : Tree) (bits : Sixteen-bit t) (is : List ℕ) (room : ℕ) (short : length is ≤ 65536) (enough : length is ≤ room) where
-  behind : (n : ℕ) → n ≢ 12 → Never n (state-tests t fresh-lock ++ (schedule-tests t is ++ room-tests is room))
+  later-tests : (n : ℕ) → n ≢ 12 → Never n (state-tests t fresh-lock ++ (schedule-tests t is ++ room-tests is room))
   unfolding Never bad-state bad-length bad-room
-  behind n o = (
+  later-tests n o = (
     inr (λ p l. rw (fresh-well-formed t, fresh-good t)),
     (inr (λ p l. le-ltb 65536 (length is) short), (inl (λ e. o (sym e)), (inr (λ p l. le-ltb room (length is) enough), tt))),
   )
@@ -93,18 +93,18 @@ module _ (t : Tree) (bits : Sixteen-bit t) (is : List ℕ) (room : ℕ) (short :
   run-never n h e o =
       never-answered n (run-tests t fresh-lock is room) h
       (never-joined n (run-tests-before-19 t fresh-lock is room) (counter-tests t fresh-lock is)
-      (never-joined n (tree-tests t) _ (other-numbers n (tree-tests t) e) (behind n o)) (last n))
+      (never-joined n (tree-tests t) _ (other-numbers n (tree-tests t) e) (later-tests n o)) (last n))
 
-pub run-met : (w : TreeWords) (is : List ℕ) → length is ≤ 65536 → Run-met (file-run w is .number)
+pub run-possible : (w : TreeWords) (is : List ℕ) → length is ≤ 65536 → Run-possible (file-run w is .number)
 unfolding file-run run-answer
-run-met w is short =
+run-possible w is short =
     let buffer : List ℕ = replicate (length is) 0 in
     let enough : length is ≤ length buffer = omega (arith, length-replicate {A = ℕ} (length is) 0) in
     let r = run-refusal (tree-of w) fresh-lock is (length buffer) in
     rw (run-reply-number r fresh-lock (run (tree-of w) is fresh-words) (counters-after-run (tree-of w) is fresh-lock))
     (by (r .number) (has-number (tree-tests (tree-of w)) (r .number)) refl (run-never (tree-of w) (sixteen-bit w) is (length buffer) short enough (r .number)))
   where
-    by : (n : ℕ) (b : Bool) → has-number (tree-tests (tree-of w)) n ≡ b → (0 < n → b ≡ false → n ≢ 12 → n ≢ n) → Run-met n
+    by : (n : ℕ) (b : Bool) → has-number (tree-tests (tree-of w)) n ≡ b → (0 < n → b ≡ false → n ≢ 12 → n ≢ n) → Run-possible n
     by n true e f = inr (inl (λ t. same-numbers t (tree-of w) n ∙ e))
     by n false e f =
         elim (ℕ-discrete n 0) [

@@ -33,7 +33,7 @@ use Rattle.lock_file.specs.PrintedListing.ListingLaws.{Five-digits, Leng
 use Rattle.lock_file.proofs.printed_listing.Lengths.{length-law}
 use Rattle.lock_file.specs.FileAnswers.FileAnswers.{Outcome, refused-by, listing-outcome, run-outcome, file-run, file-trace, reading-outcome, file-outcome, outcome-reply, file-answer}
 use Rattle.lock_file.specs.FileAnswers.FileLaws.{listing-room, Room-law}
-use Rattle.lock_file.proofs.file_answers.FileRunLaw.{Run-met, run-met}
+use Rattle.lock_file.proofs.file_answers.FileRunLaw.{Run-possible, run-possible}
 
 abbrev Not-14 : Outcome → Type 0
 Not-14 o = outcome-reply o .number ≢ 14
@@ -81,22 +81,22 @@ module _ (w : TreeWords) (is : List ℕ) (short : length is ≤ 32768) where
       omega (arith, length-law (run t is fresh-words .counts) (run t is fresh-words .trace) few small, most, traced, steps-length t is fresh-words)
 
   -- a refused run does not have the file call's own number, 14
-  other : (n : ℕ) → Run-met n → n ≢ 14
+  other : (n : ℕ) → Run-possible n → n ≢ 14
   unfolding has-number tree-tests
   other n (inl e) z = omega arith
   other n (inr (inl h)) z = true≢false (sym (h t) ∙ ap (has-number (tree-tests t)) z)
   other n (inr (inr e)) z = omega arith
 
-  met : Run-met (r .number)
+  run-is : Run-possible (r .number)
   unfolding file-run run-answer
-  met = rw (run-reply-number r fresh-lock (run t is fresh-words) (counters-after-run t is fresh-lock)) at (run-met w is (omega arith))
+  run-is = rw (run-reply-number r fresh-lock (run t is fresh-words) (counters-after-run t is fresh-lock)) at (run-possible w is (omega arith))
 
   run-fits : (room : ℕ) → listing-room ≤ room → Not-14 (run-outcome (file-run w is) (file-trace w is) room)
   unfolding run-outcome file-run file-trace run-answer run-reply listing-outcome outcome-reply refusal
   run-fits room h =
       by-test (λ y. Not-14 (run-outcome y (run t is fresh-words .trace) room)) (eqb (r .number) 0) _ _
       (λ e. rw (le-ltb room (length (listing (run t is fresh-words .counts) (run t is fresh-words .trace))) (omega (arith, fits (eqb-true (r .number) 0 e)))) (λ z. omega arith))
-      (λ e. rw e (other (r .number) met))
+      (λ e. rw e (other (r .number) run-is))
 
 reading-fits : (bs : List ℕ) (x : Reached) (w : TreeWords) (room : ℕ) → length bs ≤ 65536 → listing-room ≤ room → Not-14 (reading-outcome (reading-of bs x w) room)
 unfolding reading-of reading-outcome reached-refusal refusal outcome-reply entries-at

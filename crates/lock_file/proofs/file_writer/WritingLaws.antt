@@ -29,7 +29,7 @@ use Rattle.lock_file.proofs.file_answers.FileClaim.{zero-start, describ
 use Rattle.lock_file.specs.FileWriter.Writing.{written-file}
 use Rattle.lock_file.specs.FileWriter.Refusals.{write-refusal}
 use Rattle.lock_file.specs.FileWriter.Answers.{answered-length, write-answer, write-reply, file-buffer-answer}
-use Rattle.lock_file.specs.FileWriter.Laws.{Write-refusal-law, file-left, Lock-file-for, Read-back-law, Shortest-law, Too-long-law, Circle-law, Keeps-rest, Buffer-law}
+use Rattle.lock_file.specs.FileWriter.Laws.{Write-refusal-law, file-left, Lock-file-for, Read-back-law, Shortest-law, Too-long-law, Round-trip-law, Keeps-rest, Buffer-law}
 use Rattle.lock_file.proofs.file_writer.Refusing.{write-refusal-law}
 use Rattle.lock_file.proofs.file_writer.Answering.{replied, answer-refused, answer-accepted}
 use Rattle.lock_file.proofs.file_writer.Describing.{words-of, same-tree, describes}
@@ -144,7 +144,7 @@ rest-accepted w is b e =
     let n = length-answered w is b e in
     record {
       long = ap length buffer ∙ simp (length-append, length-drop) (omega (arith, good w is b e .fits));
-      behind = rw (n, buffer) (drop-at file (drop (length file) b) (length file) refl);
+      after = rw (n, buffer) (drop-at file (drop (length file) b) (length file) refl);
       refused = λ z. absurd (z e);
     }
 
@@ -155,7 +155,7 @@ rest-refused w is b n =
     let same = sym (x .1) in
     record {
       long = ap length same;
-      behind = ap (drop (write-answer w is b .length)) same;
+      after = ap (drop (write-answer w is b .length)) same;
       refused = λ z. (same, sym (ap (λ r. r .length) (x .0)));
     }
 
@@ -194,9 +194,9 @@ outcome-same v w is room e =
     (run t is fresh-words .trace) room)
     e
 
-pub circle-law : Circle-law
-unfolding Circle-law Described-law
-circle-law w is b e =
+pub round-trip-law : Round-trip-law
+unfolding Round-trip-law Described-law
+round-trip-law w is b e =
     let g = good w is b e in
     let x = written w (g .tree) is in
     record {

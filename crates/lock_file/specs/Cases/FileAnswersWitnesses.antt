@@ -5,11 +5,11 @@ use Prim.Native.Nat.{ℕ}
 use lib.ListN.{replicate}
 use Rattle.lock_file.specs.Cases.Reading.{pairs, example}
 use Rattle.lock_file.specs.FileAnswers.FileAnswers.{file-answer}
-use Rattle.lock_file.specs.FileAnswers.FileLaws.{met-numbers}
+use Rattle.lock_file.specs.FileAnswers.FileLaws.{possible-numbers}
 
 -- the files
-unfoldable pub met-files : List (List ℕ)
-met-files =
+unfoldable pub numbered-files : List (List ℕ)
+numbered-files =
     -- the printed example, whose listing has 22 bytes
     example 2
     -- too long; cut off; a bit without a meaning
@@ -31,5 +31,5 @@ met-files =
     ∷ (1 ∷ 1 ∷ 0 ∷ 0 ∷ pairs (replicate 20 0)) ∷ []
 
 -- with an output buffer of 22 bytes, each file gets its number
-unfoldable pub Numbers-met : Type 0
-Numbers-met = map (λ bytes. file-answer bytes (replicate 22 0) .number) met-files ≡ met-numbers
+unfoldable pub Numbers-occur : Type 0
+Numbers-occur = map (λ bytes. file-answer bytes (replicate 22 0) .number) numbered-files ≡ possible-numbers

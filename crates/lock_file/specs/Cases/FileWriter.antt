@@ -26,7 +26,7 @@ pub record Case : Type 0 where
   pub after : List ℕ
 
 -- accepted, with this file at the front of a buffer of sevens and a given number of bytes after it
-unfoldable pub writes : TreeWords → (schedule file : List ℕ) → (behind : ℕ) → Case
+unfoldable pub writes : TreeWords → (schedule file : List ℕ) → (extra : ℕ) → Case
 writes w is bs n =
     record {
       words = w;

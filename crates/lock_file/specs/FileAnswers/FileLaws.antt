@@ -17,20 +17,20 @@ use Rattle.lock_file.specs.Format.{Describes}
 use Rattle.lock_file.specs.FileAnswers.FileAnswers.{file-run, file-trace, tree-outcome, file-outcome, file-answer}
 
 -- 1. REFUSALS. The file call is accepted, or refused by 1 to 3, a number of the tree's tests, 12 or 14: it runs from a fresh lock, its schedules are short, and its trace buffer is long enough
-unfoldable pub Met : (number : ℕ) → Type 0
-Met n = (n ≤ 3) ⊎ (((t : Tree) → has-number (tree-tests t) n ≡ true) ⊎ ((n ≡ 12) ⊎ (n ≡ 14)))
+unfoldable pub Possible : (number : ℕ) → Type 0
+Possible n = (n ≤ 3) ⊎ (((t : Tree) → has-number (tree-tests t) n ≡ true) ⊎ ((n ≡ 12) ⊎ (n ≡ 14)))
 
 -- for every file and output buffer
 unfoldable pub File-refusal-law : Type 0
-File-refusal-law = (bytes output : List ℕ) → Met (file-answer bytes output .number)
+File-refusal-law = (bytes output : List ℕ) → Possible (file-answer bytes output .number)
 
 -- these are all its numbers; `Witnesses` computes a file for each
-unfoldable pub met-numbers : List ℕ
-met-numbers = 0 ∷ 1 ∷ 2 ∷ 3 ∷ 4 ∷ 5 ∷ 6 ∷ 7 ∷ 8 ∷ 9 ∷ 16 ∷ 12 ∷ 14 ∷ []
+unfoldable pub possible-numbers : List ℕ
+possible-numbers = 0 ∷ 1 ∷ 2 ∷ 3 ∷ 4 ∷ 5 ∷ 6 ∷ 7 ∷ 8 ∷ 9 ∷ 16 ∷ 12 ∷ 14 ∷ []
 
--- no other number is met
-unfoldable pub Met-numbers-law : Type 0
-Met-numbers-law = (number : ℕ) → Met number → 1 ≤ occurrences number met-numbers
+-- no other number occurs
+unfoldable pub Possible-numbers-law : Type 0
+Possible-numbers-law = (number : ℕ) → Possible number → 1 ≤ occurrences number possible-numbers
 
 -- 2. FILES. For a file that describes a tree and a schedule, the file call answers what a run of them from fresh answers
 unfoldable pub Described-law : Type 0

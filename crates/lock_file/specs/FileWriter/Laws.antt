@@ -86,15 +86,15 @@ pub record Runs-alike (bytes : List ℕ) (w : TreeWords) (schedule : List ℕ) :
       ≡ listing-outcome (listing (run (tree-of w) schedule fresh-words .counts) (run (tree-of w) schedule fresh-words .trace)) room
 
 -- for every accepted call
-unfoldable pub Circle-law : Type 0
-Circle-law =
+unfoldable pub Round-trip-law : Type 0
+Round-trip-law =
     (w : TreeWords) (schedule buffer : List ℕ) → write-answer w schedule buffer .number ≡ 0 →
     Runs-alike (file-left w schedule buffer) w schedule
 
 -- 5. THE BUFFER keeps its length and what is after the file; a refused call changes nothing in it, and its length is 0
 pub record Keeps-rest (w : TreeWords) (schedule buffer : List ℕ) : Type 0 where
   pub long : length (file-buffer-answer w schedule buffer) ≡ length buffer
-  pub behind :
+  pub after :
       drop (write-answer w schedule buffer .length) (file-buffer-answer w schedule buffer) ≡ drop (write-answer w schedule buffer .length) buffer
   pub refused :
       write-answer w schedule buffer .number ≢ 0 →

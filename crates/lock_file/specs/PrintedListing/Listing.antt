@@ -28,7 +28,7 @@ abbrev pub line-feed : ℕ
 line-feed = 10
 
 -- a numeral and one byte after it
-unfoldable pub number-then : (value behind : ℕ) → List ℕ
+unfoldable pub number-then : (value following : ℕ) → List ℕ
 number-then v b = numeral v ++ (b ∷ [])
 
 -- one line per trace element

@@ -249,9 +249,9 @@ module _ (t : Tree) (i : ℕ) (s : State) where
   not-entry : (k : Kind) → kind ≡ k → is-entry k ≡ false → is-entry kind ≢ true
   not-entry k e f g = false≢true (sym f ∙ ap is-entry (sym e) ∙ g)
 
-  tells : Outcome t s i before (row t i (place s i) s) → Reports-kind t i s
+  reports : Outcome t s i before (row t i (place s i) s) → Reports-kind t i s
   unfolding step is-entry
-  tells (stayed e f n) =
+  reports (stayed e f n) =
       let same : after ≡ before = ap (λ x. place x i) f in
       record {
         stays-exactly = (λ _. f, λ _. e);
@@ -261,7 +261,7 @@ module _ (t : Tree) (i : ℕ) (s : State) where
         crossed-exactly = (λ g. never (cc), λ g. never (between-not-inside (g .1) (sym same ∙ g .0)));
         leaving-exactly = (λ g. never (cc), λ g. absurd (n g));
       }
-  tells (moved q e f m n) =
+  reports (moved q e f m n) =
       record {
         stays-exactly = (λ g. never (cc), λ g. absurd (m .0 (sym f ∙ ap (λ x. place x i) g)));
         enters-exactly = (λ g. absurd (not-entry other e refl g), λ g. absurd (m .1 (sym f ∙ g .0)));
@@ -270,7 +270,7 @@ module _ (t : Tree) (i : ℕ) (s : State) where
         crossed-exactly = (λ g. never (cc), λ g. absurd (m .1 (sym f ∙ g .0)));
         leaving-exactly = (λ g. never (cc), λ g. absurd (n g));
       }
-  tells (left q e f m n) =
+  reports (left q e f m n) =
       record {
         stays-exactly = (λ g. never (cc), λ g. absurd (m .0 (sym f ∙ ap (λ x. place x i) g)));
         enters-exactly = (λ g. absurd (not-entry leaving e refl g), λ g. absurd (m .1 (sym f ∙ g .0)));
@@ -279,7 +279,7 @@ module _ (t : Tree) (i : ℕ) (s : State) where
         crossed-exactly = (λ g. never (cc), λ g. absurd (m .1 (sym f ∙ g .0)));
         leaving-exactly = (λ _. n, λ _. e);
       }
-  tells (entered-root e f m) =
+  reports (entered-root e f m) =
       record {
         stays-exactly = (λ g. never (cc), λ g. never (root-not-inside m (sym (ap (λ x. place x i) g) ∙ f)));
         enters-exactly = (λ _. (f, λ g. never (root-not-inside m g)), λ _. kind-entry kind root-entry e refl);
@@ -288,7 +288,7 @@ module _ (t : Tree) (i : ℕ) (s : State) where
         crossed-exactly = (λ g. never (cc), λ g. never (root-not-between m (g .1)));
         leaving-exactly = (λ g. never (cc), λ g. never (root-not-inside m g));
       }
-  tells (entered-passed e f m) =
+  reports (entered-passed e f m) =
       record {
         stays-exactly = (λ g. never (cc), λ g. never (home-not-inside m (sym (ap (λ x. place x i) g) ∙ f)));
         enters-exactly = (λ _. (f, λ g. never (home-not-inside m g)), λ _. kind-entry kind passed-entry e refl);
@@ -297,7 +297,7 @@ module _ (t : Tree) (i : ℕ) (s : State) where
         crossed-exactly = (λ g. never (cc), λ g. never (home-not-between m (g .1)));
         leaving-exactly = (λ g. never (cc), λ g. never (home-not-inside m g));
       }
-  tells (entered-crossed e f m) =
+  reports (entered-crossed e f m) =
       record {
         stays-exactly = (λ g. never (cc), λ g. never (between-not-inside m (sym (ap (λ x. place x i) g) ∙ f)));
         enters-exactly = (λ _. (f, λ g. never (between-not-inside m g)), λ _. kind-entry kind crossed-entry e refl);
@@ -309,4 +309,4 @@ module _ (t : Tree) (i : ℕ) (s : State) where
 
 pub kind-law : Kind-law
 unfolding Kind-law
-kind-law t i s e h f = let valid = accepted t e in tells t i s (step-outcome t valid i h s (well-formed-facts t s f))
+kind-law t i s e h f = let valid = accepted t e in reports t i s (step-outcome t valid i h s (well-formed-facts t s f))

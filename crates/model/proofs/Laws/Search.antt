@@ -99,7 +99,7 @@ module _ (t : Tree) (valid : Accepted t) (i : ℕ) (h : i < t .threads) where
   leaves-at k b =
       let z = leaves-here k b in
       record {
-        hangs = rw z (child-yes t (ancestor t i (suc k)) (ancestor t i k) (ancestor-inner t valid i h k b) (ancestor-parent-of t valid i h k b));
+        its-child = rw z (child-yes t (ancestor t i (suc k)) (ancestor t i k) (ancestor-inner t valid i h k b) (ancestor-parent-of t valid i h k b));
         there = rw z (on-path-at t valid i h k (omega arith));
         exactly = rw z (omega (arith, ancestor-depth t valid i h k (omega arith)));
         not-beyond = λ u s. leaves-home u k b (s .home) (agrees k b u (rw z at s)) ∙ sym z;
@@ -111,12 +111,12 @@ module _ (t : Tree) (valid : Accepted t) (i : ℕ) (h : i < t .threads) where
   only-at look k b s =
       let c = look t i (ancestor t i (suc k)) .child in
       let o = path-index t valid i h c (s .there) in
-      let up = child-facts t (ancestor t i (suc k)) c (s .hangs) in
+      let up = child-facts t (ancestor t i (suc k)) c (s .its-child) in
       let inner : o .index < height t i = elim (ℕ-discrete (o .index) (height t i)) [
         | yes e ↦ absurd (omega (arith, up .no-root, sym (o .there) ∙ ap (ancestor t i) e ∙ ancestor-root t valid i h))
         | no e ↦ omega (arith, o .within)
       ] in
-      let above = sym (ancestor-parent-of t valid i h (o .index) inner) ∙ ap (t .parent) (o .there) ∙ up .hangs in
+      let above = sym (ancestor-parent-of t valid i h (o .index) inner) ∙ ap (t .parent) (o .there) ∙ up .its-child in
       let same = ancestor-injective t valid i h (suc (o .index)) (suc k) (omega arith) (omega arith) above in
       let here : c ≡ ancestor t i k = sym (o .there) ∙ ap (ancestor t i) (omega (arith, same)) in
       same-found here (omega (arith, s .exactly, ap (depth t) here, ancestor-depth t valid i h k (omega arith))) ∙ sym (leaves-here k b)

@@ -68,14 +68,14 @@ child-yes t d c h e = rw (ne-eqb c 0 (omega arith), eq-eqb (t .parent c) d e)
 
 pub record Child (t : Tree) (d c : ℕ) : Type 0 where
   pub no-root : 0 < c
-  pub hangs : t .parent c ≡ d
+  pub its-child : t .parent c ≡ d
 
 pub child-facts : (t : Tree) (d c : ℕ) → is-child t d c ≡ true → Child t d c
 unfolding is-child
 child-facts t d c e =
     let both = and-both (not (eqb c 0)) (eqb (t .parent c) d) e in
     let n = eqb-false c 0 (not-true (eqb c 0) (both .0)) in
-    record { no-root = omega (arith, n); hangs = eqb-true (t .parent c) d (both .1) }
+    record { no-root = omega (arith, n); its-child = eqb-true (t .parent c) d (both .1) }
 
 -- a leaf is nobody's parent
 pub leaf-childless : (t : Tree) (d c : ℕ) → is-leaf t d ≡ true → 0 < c → c < t .domains → t .parent c ≢ d

@@ -39,7 +39,7 @@ children-same :
 children-same t d f g same = largest-same (t .domains) _ _ (λ c s. go c s (is-child t d c) refl)
   where
     go : (c : ℕ) → c < t .domains → (b : Bool) → is-child t d c ≡ b → cond (is-child t d c) (f c) 0 ≡ cond (is-child t d c) (g c) 0
-    go c s true e = let k = child-facts t d c e in rw e (same c (k .no-root) s (k .hangs))
+    go c s true e = let k = child-facts t d c e in rw e (same c (k .no-root) s (k .its-child))
     go c s false e = rw e refl
 
 -- a domain that is no leaf has a child
@@ -57,7 +57,7 @@ module _ (t : Tree) (valid : Accepted t) where
       go false e =
           let c = inner-child t d e in
           let k = child-facts t d (c .index) (c .holds) in
-          absurd (omega (arith, depth-child t valid (c .index) (k .no-root) (c .below), depth-few t valid (c .index) (c .below), ap (depth t) (k .hangs)))
+          absurd (omega (arith, depth-child t valid (c .index) (k .no-root) (c .below), depth-few t valid (c .index) (c .below), ap (depth t) (k .its-child)))
 
   -- fuel for the levels left is enough
   fuel-enough : (f d : ℕ) → d < t .domains → 5 ≤ f + depth t d → domain-allowance f t d ≡ domain-allowance (suc f) t d

@@ -36,7 +36,7 @@ member-facts t d r e =
           let both = and-both (ltb (r - 256) (t .domains)) (is-child t d (r - 256)) (rw (le-ltb r 256 (omega arith)) at e) in
           let c = child-facts t d (r - 256) (both .1) in
           let z : 256 + (r - 256) ≡ r = omega arith in
-          let m : Member t d (256 + (r - 256)) = a-domain (r - 256) (c .no-root) (ltb-true _ _ (both .0)) (c .hangs) in
+          let m : Member t d (256 + (r - 256)) = a-domain (r - 256) (c .no-root) (ltb-true _ _ (both .0)) (c .its-child) in
           rw z at m
     ]
 

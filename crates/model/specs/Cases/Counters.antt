@@ -106,29 +106,29 @@ abbrev pub buffer : (room : ℕ) → List ℕ
 buffer n = replicate n 999
 
 -- a run's reply: accepted, with these counters
-abbrev pub left-so : RunReply → Counters → Bool
-left-so r c = (eqb (r .number) 0 && eqb (r .place) 0) && same-counters (r .state .counters) c
+abbrev pub counters-are : RunReply → Counters → Bool
+counters-are r c = (eqb (r .number) 0 && eqb (r .place) 0) && same-counters (r .state .counters) c
 
 -- a run's reply: this number and place; if refused, 0 steps, state and buffer unchanged
-unfoldable pub refused-so : (number place : ℕ) → RunReply → (traced : List ℕ) → LockState → (room : ℕ) → Bool
-refused-so zero p r tr s n = eqb (r .number) 0 && eqb (r .place) 0
-refused-so (suc k) p r tr s n =
+unfoldable pub run-replies : (number place : ℕ) → RunReply → (traced : List ℕ) → LockState → (room : ℕ) → Bool
+run-replies zero p r tr s n = eqb (r .number) 0 && eqb (r .place) 0
+run-replies (suc k) p r tr s n =
     (eqb (r .number) (suc k) && eqb (r .place) p) && (eqb (r .counts .steps) 0 && (same-lock (r .state) s && same-numbers tr (buffer n)))
 
 -- a step's reply: this number and place; if refused, kind and domain 0 and the state unchanged
-unfoldable pub step-so : (number place : ℕ) → StepReply → LockState → Bool
-step-so zero p r s = eqb (r .number) 0 && eqb (r .place) 0
-step-so (suc k) p r s = (eqb (r .number) (suc k) && eqb (r .place) p) && (eqb (r .kind) 0 && (eqb (r .domain) 0 && same-lock (r .state) s))
+unfoldable pub step-replies : (number place : ℕ) → StepReply → LockState → Bool
+step-replies zero p r s = eqb (r .number) 0 && eqb (r .place) 0
+step-replies (suc k) p r s = (eqb (r .number) (suc k) && eqb (r .place) p) && (eqb (r .kind) 0 && (eqb (r .domain) 0 && same-lock (r .state) s))
 
 -- whether a case holds
 unfoldable pub holds : Case → Bool
-holds (leaves w is c) = left-so (run-answer w (uncounted fresh-words) is (buffer (length is))) c
+holds (leaves w is c) = counters-are (run-answer w (uncounted fresh-words) is (buffer (length is))) c
 holds (run-with w c is n k p) =
     let s = lock-state fresh-words c in
-    refused-so k p (run-answer w s is (buffer n)) (trace-answer w s is (buffer n)) s n
+    run-replies k p (run-answer w s is (buffer n)) (trace-answer w s is (buffer n)) s n
 holds (step-with w is c i k p) =
     let s = lock-state (run (tree-of w) is fresh-words .state) c in
-    step-so k p (step-answer w s i) s
+    step-replies k p (step-answer w s i) s
 holds (step-leaves w s i c) =
     let r = step-answer w (uncounted s) i in
     (eqb (r .number) 0 && eqb (r .place) 0) && same-counters (r .state .counters) c

@@ -30,7 +30,7 @@ use Rattle.model.proofs.Trees.Accepted.{sixteen-bit}
 use Rattle.refusals.specs.Arrays.{tree-state-tests, schedule-room-tests}
 use Rattle.refusals.proofs.Joining.{first-decides, other-decides, state-numbered}
 use Rattle.refusals.specs.StateCheck.Answers.{check-tests, check-refusal, check-answer}
-use Rattle.refusals.specs.StateCheck.Laws.{Check-refusal-law, Accepted-law, Empty-run-law, Taken-up-law, Stepped-law}
+use Rattle.refusals.specs.StateCheck.Laws.{Check-refusal-law, Accepted-law, Empty-run-law, Returned-state-law, Stepped-law}
 
 pub check-refusal-law : Check-refusal-law
 unfolding Check-refusal-law Refusal-law has-number tree-tests check-tests
@@ -104,11 +104,11 @@ module _ (w : TreeWords) where
   unfolding fresh-answer check-answer Form-law
   of-fresh v e = passes t _ (e, form-law t (sixteen-bit w) e .of-fresh _ .form, fresh-good t)
 
-  behind :
+  of-steps :
       (s : LockState) (is : List ℕ) → tree-refusal t .number ≡ 0 → All-threads t is → Formed t (s .words) → good-counts t (s .counters) ≡ true →
       Counts-pass t s is → check-refusal t (lock-state (run t is (s .words) .state) (counters-after-run t is s)) ≡ accepted
   unfolding Form-law Counter-form-law
-  behind s is ok all f good low =
+  of-steps s is ok all f good low =
       passes t _ (ok, form-law t (sixteen-bit w) ok .of-run is (s .words) all f .form, counter-form-law t ok (sixteen-bit w) .of-run is s all f good low)
 
   of-run :
@@ -119,7 +119,7 @@ module _ (w : TreeWords) where
       let r = run-refusal t s is (length b) in
       let z : r .number ≡ 0 = sym (run-reply-number r s (run t is (s .words)) (counters-after-run t is s)) ∙ e in
       let g = run-facts t s is (length b) z in
-      rw (eq-eqb (r .number) 0 z) (behind s is (g .tree) (g .threads) f (g .counts) (run-counted t s is (length b) z))
+      rw (eq-eqb (r .number) 0 z) (of-steps s is (g .tree) (g .threads) f (g .counts) (run-counted t s is (length b) z))
 
   of-step : (s : LockState) (i : ℕ) → Formed t (s .words) → step-answer w s i .number ≡ 0 → check-answer w (step-answer w s i .state) ≡ accepted
   unfolding step-answer step-reply check-answer All-threads run run-of
@@ -127,11 +127,11 @@ module _ (w : TreeWords) where
       let r = step-refusal t s i in
       let z : r .number ≡ 0 = sym (step-reply-number r s (steps t (i ∷ []) (s .words)) (counters-after-run t (i ∷ []) s)) ∙ e in
       let g = step-facts t s i z in
-      rw (eq-eqb (r .number) 0 z) (behind s (i ∷ []) (g .tree) (g .thread, tt) f (g .counts) (step-counted t s i z))
+      rw (eq-eqb (r .number) 0 z) (of-steps s (i ∷ []) (g .tree) (g .thread, tt) f (g .counts) (step-counted t s i z))
 
-pub taken-up-law : Taken-up-law
-unfolding Taken-up-law
-taken-up-law w = record { of-fresh = of-fresh w; of-step = of-step w; of-run = of-run w }
+pub returned-state-law : Returned-state-law
+unfolding Returned-state-law
+returned-state-law w = record { of-fresh = of-fresh w; of-step = of-step w; of-run = of-run w }
 
 pub stepped-law : Stepped-law
 unfolding Stepped-law

@@ -35,7 +35,7 @@ unfoldable pub Empty-run-law : Type 0
 Empty-run-law = (w : TreeWords) (s : LockState) (trace : List ℕ) → As-empty-run w s trace
 
 -- 4. WHAT CALLS RETURN IS ACCEPTED: the state of an accepted fresh call, and that of an accepted step or run on a state whose arrays have the right lengths
-pub record Takes-up (w : TreeWords) : Type 0 where
+pub record Returns-accepted (w : TreeWords) : Type 0 where
   pub of-fresh : (start : ℕ) → fresh-answer w start .number ≡ 0 → check-answer w (fresh-answer w start .state) ≡ accepted
   pub of-step : (s : LockState) (i : ℕ) → Formed (tree-of w) (s .words) → step-answer w s i .number ≡ 0 → check-answer w (step-answer w s i .state) ≡ accepted
   pub of-run :
@@ -43,8 +43,8 @@ pub record Takes-up (w : TreeWords) : Type 0 where
       check-answer w (run-answer w s schedule trace .state) ≡ accepted
 
 -- for every tree
-unfoldable pub Taken-up-law : Type 0
-Taken-up-law = (w : TreeWords) → Takes-up w
+unfoldable pub Returned-state-law : Type 0
+Returned-state-law = (w : TreeWords) → Returns-accepted w
 
 -- 5. AN ACCEPTED STATE can be stepped: only 19 refuses a step of a thread of the tree
 unfoldable pub Stepped-law : Type 0

@@ -34,11 +34,11 @@ use Rattle.lock.specs.Steps.Running.{kinds-of, counts-by, trace-front, step-cod
 use Rattle.lock.proofs.steps.Answering as steps-proofs
 use Rattle.lock.proofs.steps.SoFar.{thread-at, below}
 use Rattle.lock.proofs.steps.StepCodes.{code-kind, domain-of-code}
-use Rattle.lock.proofs.steps.Telling.{reported-front-length}
+use Rattle.lock.proofs.steps.Reporting.{reported-front-length}
 use Rattle.kinds.specs.declared.KindsReply.{KindsReply}
 use Rattle.kinds.specs.Answers.{kinds-refusal, with-rows, kinds-reply, refused-by, kinds-answer, kinds-trace, kinds-rows}
 use Rattle.kinds.specs.Laws.{row-at, Row-law, Kinds-run-law, Kinds-buffer-law}
-use Rattle.kinds.proofs.Telling.{threads-taken}
+use Rattle.kinds.proofs.Reporting.{threads-taken}
 use Rattle.kinds.proofs.Refusing.{early-passes, early-zero}
 use Rattle.kinds.proofs.Buffers.{same-refusal, row-law, kinds-buffer-law, kinds-run-law}
 use Rattle.runs_call.specs.WithKinds.Spreading.{Threads-fit, Spread}
@@ -150,7 +150,7 @@ module _ (w : TreeWords) (s : LockState) (is b rs : List ℕ) (r : Refusal) (e :
       after-there j h =
           let y : 2 * length is + (j - 2 * length is) ≡ j = omega arith in
           let m = j - 2 * length is in
-          g .behind j h ∙ ap (λ v. getD v j 0) f ∙ code-after rs xs j (omega (arith, steps-length t is (s .words)))
+          g .rest j h ∙ ap (λ v. getD v j 0) f ∙ code-after rs xs j (omega (arith, steps-length t is (s .words)))
           ∙ rw (← y) (sym (getD-drop (2 * length is) rs m 0) ∙ ap (λ v. getD v m 0) (sym (kinds-buffer-law w s is b rs .after)) ∙ getD-drop (2 * length is) B m 0)
 
       each : (j : ℕ) → getD rows j 0 ≡ getD B j 0
@@ -175,4 +175,4 @@ module _ (w : TreeWords) (s : LockState) (is b rs : List ℕ) (r : Refusal) (e :
     reported-answered n b′ kinds counts c m g h k q counted q′ =
         let run-answer = steps-proofs.run-answered w s is b r as-run z n b′ kinds counts c g h k q counted in
         let same = kinds-run-law w s is b rs (λ n. let y = sym accepted ∙ n in absurd (omega arith)) in
-        (ap (λ y. with-rows y m) (run-answer .0 ∙ sym (same .reply)) ∙ ap (with-rows (record { number = kinds-answer w s is b rs .number; place = kinds-answer w s is b rs .place; counts = kinds-answer w s is b rs .counts; state = kinds-answer w s is b rs .state })) (q′ ∙ sym (kinds-buffer-law w s is b rs .told accepted)), run-answer .1 ∙ sym (same .traced))
+        (ap (λ y. with-rows y m) (run-answer .0 ∙ sym (same .reply)) ∙ ap (with-rows (record { number = kinds-answer w s is b rs .number; place = kinds-answer w s is b rs .place; counts = kinds-answer w s is b rs .counts; state = kinds-answer w s is b rs .state })) (q′ ∙ sym (kinds-buffer-law w s is b rs .rows-counted accepted)), run-answer .1 ∙ sym (same .traced))

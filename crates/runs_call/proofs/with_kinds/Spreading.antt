@@ -13,7 +13,7 @@ use Rattle.runs_call.specs.WithKinds.Spreading.{Spread}
 module _ (homes schedule before : List ℕ) where
   pub spread-none : Spread homes schedule before (length schedule) before
   spread-none =
-      record { long = refl; ahead = λ j h. refl; kind = λ j h l. absurd (omega arith); domain = λ j h l. absurd (omega arith); behind = λ j h. refl }
+      record { long = refl; ahead = λ j h. refl; kind = λ j h l. absurd (omega arith); domain = λ j h l. absurd (omega arith); rest = λ j h. refl }
 
   -- one more step, from the last to the first
   pub spread-one :
@@ -46,5 +46,5 @@ module _ (homes schedule before : List ℕ) where
                   ∙ e ∙ ap (λ v. row-domain (getD homes i 0) ((v / 8) % 16) (v / 128)) same ∙ ap (λ v. row-domain (getD homes v 0) ((getD before k 0 / 8) % 16) (getD before k 0 / 128)) at)
               | no z ↦ other (2 * j + 1) (λ y. absurd (omega arith)) (λ y. z (omega arith)) ∙ g .domain j (omega arith) b
             ];
-        behind = λ j a. other j (λ z. absurd (omega arith)) (λ z. absurd (omega arith)) ∙ g .behind j a;
+        rest = λ j a. other j (λ z. absurd (omega arith)) (λ z. absurd (omega arith)) ∙ g .rest j a;
       }

@@ -32,7 +32,7 @@ use Rattle.runs_call.proofs.with_waits.Tables.{start, mark-small, attem
 use Rattle.lock.specs.Steps.Running.{kinds-of, counts-by, trace-front, step-code, codes-front}
 use Rattle.runs_call.specs.WithWaits.Waiting.{kinds-added, Counting, Countable, Counted, Small, Marks-of, Handed-in, Marks-fit}
 use Rattle.lock.proofs.steps.SoFar.{counts-kinds}
-use Rattle.lock.proofs.steps.Telling.{reported-front-length}
+use Rattle.lock.proofs.steps.Reporting.{reported-front-length}
 
 -- pieces of a schedule
 pub all-take : (t : Tree) (is : List ℕ) (m : ℕ) → All-threads t is → All-threads t (take m is)

@@ -5,7 +5,7 @@ ghost use Rattle.model.specs.Counters.{lock-state};
 ghost use Rattle.refusals.specs.Arrays.{lent-state};
 ghost use Rattle.refusals.specs.OfRuns.Counts.{counters-in};
 ghost use Rattle.waits.specs.Answers.{waits-on-answer, waits-on-trace, waits-on-rows, waits-on-under-way};
-ghost use Rattle.runs_call.specs.WithWaits.Told.{waits-reported};
+ghost use Rattle.runs_call.specs.WithWaits.Reported.{waits-reported};
 use crate::with_waits::waiting;
 use model::Counts;
 use model::TreeWords;

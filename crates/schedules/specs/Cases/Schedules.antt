@@ -19,7 +19,7 @@ pub record Case : Type 0 where
   pub after : List ℕ
 
 -- accepted, with these rows at the front of a buffer of sevens and a given number of elements after them
-unfoldable pub rows-given : TreeWords → (lengths entries rows : List ℕ) → (front behind : ℕ) → Case
+unfoldable pub rows-given : TreeWords → (lengths entries rows : List ℕ) → (front extra : ℕ) → Case
 rows-given w ns es xs n m =
     record { words = w; lengths = ns; entries = es; buffer = replicate n 7 ++ replicate m 7; number = 0; place = 0; after = xs ++ replicate m 7 }
 

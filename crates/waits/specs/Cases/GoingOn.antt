@@ -117,12 +117,12 @@ abbrev pub nothing-done : WaitsReply → (traced : List ℕ) → On-case → Boo
 nothing-done r tr c = ((same-counts (r .counts) no-counts && same-lock (r .state) (c .state)) && eqb (r .rows) 0) && same-numbers tr (c .trace)
 
 -- accepted, a row for each thread and one more
-abbrev pub told : WaitsReply → On-case → Bool
-told r c = eqb (5 * r .rows + 2) (length (c .rows))
+abbrev pub row-per-thread : WaitsReply → On-case → Bool
+row-per-thread r c = eqb (5 * r .rows + 2) (length (c .rows))
 
 abbrev pub answered : WaitsReply → (traced rows left : List ℕ) → On-case → Bool
 answered r tr xs us c =
-    ((eqb (r .number) (c .number) && eqb (r .place) (c .place)) && ((eqb (r .number) 0 && told r c) || nothing-done r tr c))
+    ((eqb (r .number) (c .number) && eqb (r .place) (c .place)) && ((eqb (r .number) 0 && row-per-thread r c) || nothing-done r tr c))
     && (same-numbers xs (c .after) && same-numbers us (c .left))
 
 unfoldable pub holds : On-case → Bool
@@ -136,7 +136,7 @@ unfoldable pub all-hold : List On-case → Bool
 all-hold [] = true
 all-hold (c ∷ cs) = holds c && all-hold cs
 
--- EVERY PART COUNTS: the right answer to a refused line, and answers that are wrong in the number, the place, the counts, the rows told, the state, the trace, the rows and the numbers alone
+-- EVERY PART COUNTS: the right answer to a refused line, and answers that are wrong in the number, the place, the counts, the rows reported, the state, the trace, the rows and the numbers alone
 abbrev pub reply : (number place stays rows : ℕ) → LockState → WaitsReply
 reply n p k m s = record { number = n; place = p; counts = record { steps = 0; entries = 0; stays = k; root = 0; passed = 0; crossed = 0 }; rows = m; state = s }
 

@@ -15,7 +15,7 @@ type Calls = (Allowances, Rounds, WaitBounds);
 
 /// The answers for the allowances, the rounds and the longest waits, and the two buffers. The buffers hold other words before the calls.
 #[derive(Debug, PartialEq, Eq)]
-struct Told {
+struct Answers {
     allowances: (u32, u32),
     domains: [u64; DOMAIN_ROOM],
     rounds: RoundsReply,
@@ -23,13 +23,13 @@ struct Told {
     threads: [u64; THREAD_ROOM],
 }
 
-fn make(calls: Calls, tree: &TreeWords, seed: u64) -> Told {
+fn make(calls: Calls, tree: &TreeWords, seed: u64) -> Answers {
     let mut random = Random::new(seed);
     let mut domains = std::array::from_fn(|_| random.word());
     let mut threads = std::array::from_fn(|_| random.word());
     let allowances = calls.0(tree, &mut domains);
     let waits = calls.2(tree, &mut threads);
-    Told { allowances, domains, rounds: calls.1(tree), waits, threads }
+    Answers { allowances, domains, rounds: calls.1(tree), waits, threads }
 }
 
 /// How many numbers of accepted trees were capped, and how many others were above 32 bits.

@@ -9,7 +9,7 @@ use reference::random::Random;
 use reference::random_file::{broken_draft, valid_draft};
 use reference::random_state::{late_state, random_start, random_state, spoil, tree_words};
 use reference::refusals::{accept_tree, LONGEST_SCHEDULE};
-use reference::state_met::{StateMet, Told};
+use reference::state_met::{Outcome, StateMet};
 use reference::words::*;
 use std::process::exit;
 
@@ -51,7 +51,7 @@ struct Named {
 #[derive(PartialEq, Eq)]
 struct Left {
     reply: RunReply,
-    told: StepAnswer,
+    step: StepAnswer,
     trace: Vec<u16>,
     written: u32,
     rows: Vec<u16>,
@@ -135,7 +135,7 @@ fn case_schedule(random: &mut Random, mut schedule: Vec<u16>, threads: u32) -> V
 fn make(calls: Calls, case: &Case) -> Left {
     let (mut state, mut trace, mut rows) = (case.state, case.trace.clone(), case.rows.clone());
     let mut written = 0;
-    let mut told = StepAnswer::default();
+    let mut step = StepAnswer::default();
     let reply = match case.call {
         Call::Fresh => without_counts((calls.fresh)(&case.tree, case.start)),
         Call::FreshInPlace => {
@@ -144,12 +144,12 @@ fn make(calls: Calls, case: &Case) -> Left {
         }
         Call::Step => {
             let StepReply { answer, state } = (calls.step)(&case.tree, &state, case.schedule[0]);
-            told = answer;
+            step = answer;
             without_counts(Reply { number: answer.number, place: answer.place, state })
         }
         Call::StepInPlace => {
-            told = (calls.step_in_place)(&case.tree, &mut state, case.schedule[0]);
-            without_counts(Reply { number: told.number, place: told.place, state })
+            step = (calls.step_in_place)(&case.tree, &mut state, case.schedule[0]);
+            without_counts(Reply { number: step.number, place: step.place, state })
         }
         Call::Run => {
             let end = trace.len() - CANARY;
@@ -171,7 +171,7 @@ fn make(calls: Calls, case: &Case) -> Left {
             without_counts(Reply { number, place, state })
         }
     };
-    Left { reply, told, trace, written, rows }
+    Left { reply, step, trace, written, rows }
 }
 
 fn without_counts(Reply { number, place, state }: Reply) -> RunReply {
@@ -203,7 +203,7 @@ fn main() {
                 _ => &case.schedule[..1],
             };
             let RunReply { number, place, .. } = table.reply;
-            state_met.count(&case.tree, &case.state, Told { number, place, schedule });
+            state_met.count(&case.tree, &case.state, Outcome { number, place, schedule });
         }
     }
     met.print();
@@ -226,9 +226,9 @@ fn report(case: &Case, table: &Left, other: &Left) {
     println!("trace buffers are {}", if table.trace == other.trace { "the same" } else { "not the same" });
 }
 
-fn summary(Left { reply, told, written, .. }: &Left) -> String {
+fn summary(Left { reply, step, written, .. }: &Left) -> String {
     let RunReply { number, place, steps, entries, stays, root, passed, crossed, .. } = reply;
-    format!("number {number} place {place} steps {steps} entries {entries} stays {stays} root {root} passed {passed} crossed {crossed} kind {} domain {} rows {written}", told.kind, told.domain)
+    format!("number {number} place {place} steps {steps} entries {entries} stays {stays} root {root} passed {passed} crossed {crossed} kind {} domain {} rows {written}", step.kind, step.domain)
 }
 
 fn differences(one: &StateWords, other: &StateWords) -> String {

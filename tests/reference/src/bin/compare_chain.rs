@@ -157,28 +157,28 @@ fn make(call: ChainCall, case: &Case) -> (ChainAnswer, Vec<u16>) {
 }
 
 /// A continuation in some style without the thread ahead. The thread after it takes turns often.
-fn continuation(random: &mut Random, tree: &Tree, behind: u16, ahead: u16) -> Vec<u16> {
+fn continuation(random: &mut Random, tree: &Tree, thread: u16, ahead: u16) -> Vec<u16> {
     let (style, length) = (random.pick(&STYLES), random.between(1, 120));
     let mut entries = schedule(random, tree, style, length);
     for entry in &mut entries {
         if *entry == ahead || random.one_in(6) {
-            *entry = behind;
+            *entry = thread;
         }
     }
     entries
 }
 
 /// While the thread ahead takes no step, the next step of the thread after it is a stay: before, between and after the entries. Returns how many entries were moves, or none if this fails.
-fn only_stays(random: &mut Random, tree: &Tree, state: &State, behind: u16, ahead: u16) -> Option<u64> {
+fn only_stays(random: &mut Random, tree: &Tree, state: &State, thread: u16, ahead: u16) -> Option<u64> {
     let mut state = state.clone();
     let mut moved = 0;
-    for entry in continuation(random, tree, behind, ahead) {
-        if step(tree, &mut state, behind as usize) != Kind::Stay {
+    for entry in continuation(random, tree, thread, ahead) {
+        if step(tree, &mut state, thread as usize) != Kind::Stay {
             return None;
         }
         moved += (step(tree, &mut state, entry as usize) != Kind::Stay) as u64;
     }
-    (step(tree, &mut state, behind as usize) == Kind::Stay).then_some(moved)
+    (step(tree, &mut state, thread as usize) == Kind::Stay).then_some(moved)
 }
 
 /// Tests what the document says of the chains in a state reached from fresh, on a random continuation for each link.

@@ -116,19 +116,19 @@ fn main() {
     println!("{subject}: {} cases, seed {}", options.count, options.seed);
     let mut random = Random::new(options.seed);
     let mut met = Met::new(&[4, 5, 6, 7, 8, 9, 16, 25, 12, 26]);
-    let mut met_behind = Met::new(&[25, 12, 26]);
+    let mut met_later = Met::new(&[25, 12, 26]);
     for _ in 0..options.count {
         let case = random_case(&mut random);
         let answer = compare(library, &case);
         met.count(answer.number);
         // An entry has at most four bytes, so these places are after the first piece.
         if case.journal.len() > 4 * PIECE && (answer.number == 0 || answer.place > 4 * PIECE) {
-            met_behind.count(answer.number);
+            met_later.count(answer.number);
         }
     }
     met.print();
-    print!("behind the first {} bytes, ", 4 * PIECE);
-    met_behind.print();
+    print!("after the first {} bytes, ", 4 * PIECE);
+    met_later.print();
     one_byte_changed(&mut random, library);
-    conclude(met.complete() && met_behind.complete(), library.is_some(), &["HMCS_LIBRARY", "HMCS_CALLS"]);
+    conclude(met.complete() && met_later.complete(), library.is_some(), &["HMCS_LIBRARY", "HMCS_CALLS"]);
 }

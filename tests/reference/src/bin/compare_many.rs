@@ -84,8 +84,8 @@ fn unlike_alone(calls: Calls, case: &Case, rows: &[u32]) -> Option<usize> {
     let fresh = StateWords::fresh();
     let mut rest = &case.entries[..];
     case.lengths.iter().zip(rows.chunks_exact(ROW)).position(|(&length, row)| {
-        let (schedule, behind) = rest.split_at(length as usize);
-        rest = behind;
+        let (schedule, after) = rest.split_at(length as usize);
+        rest = after;
         let alone = (calls.run)(&case.tree, &fresh, schedule, &mut vec![0; schedule.len()]);
         let RunReply { number, place, steps, entries, stays, root, passed, crossed, .. } = alone;
         row != [number, place, steps, entries, stays, root, passed, crossed]

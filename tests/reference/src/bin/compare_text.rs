@@ -91,9 +91,9 @@ fn compare_damaged(library: ReadText, text: &[u8], random: &mut Random, met: &mu
         let (front, back) = text.split_at(place);
         compare(library, front, met);
         compare(library, &[front, &[byte()], back].concat(), met);
-        if let [_, behind @ ..] = back {
-            compare(library, &[front, behind].concat(), met);
-            compare(library, &[front, &[byte()], behind].concat(), met);
+        if let [_, after @ ..] = back {
+            compare(library, &[front, after].concat(), met);
+            compare(library, &[front, &[byte()], after].concat(), met);
         }
     }
 }

@@ -9,7 +9,7 @@ use reference::random::Random;
 use reference::random_file::{broken_draft, valid_draft};
 use reference::random_state::{late_state, random_state, spoil, tree_words};
 use reference::refusals::{accept_tree, LONGEST_SCHEDULE};
-use reference::state_met::{StateMet, Told};
+use reference::state_met::{Outcome, StateMet};
 use reference::table::State;
 use reference::waits::{run_waits, run_waits_on, seen, waits, waits_from, RunWaits, RunWaitsOn, UnderWay, WaitsReply, ROW};
 use reference::words::*;
@@ -293,7 +293,7 @@ fn main() {
         let reply = compare_plain(number, &case, &mut waited);
         compare_on(number, &case, library, &mut on_met, &mut went_on);
         met.count(reply.number);
-        state_met.count(&case.tree, &case.state, Told { number: reply.number, place: reply.place, schedule: &case.schedule });
+        state_met.count(&case.tree, &case.state, Outcome { number: reply.number, place: reply.place, schedule: &case.schedule });
     }
     met.print();
     state_met.print();

@@ -10,17 +10,17 @@ use Rattle.file_calls.proofs.printing.put_number.Statement.{statement}
 use Rattle.file_calls.proofs.printing.put_number.Tie as tie
 
 put-numeral-requires : tie.Need-put-numeral-requires
-put-numeral-requires c κs = let a = c .before .before .args in omega (arith, length-number (a .value) (a .behind))
+put-numeral-requires c κs = let a = c .before .before .args in omega (arith, length-number (a .value) (a .following))
 
 slice-write-output : tie.Need-slice-write-output
 slice-write-output c =
     let start : tie.Start = search c in
-    let a = start .args in omega (arith, length-number (a .value) (a .behind))
+    let a = start .args in omega (arith, length-number (a .value) (a .following))
 
 add-result : tie.Need-add-result
 add-result c =
     let start : tie.Start = search c in
-    let a = start .args in search (needs, length-number (a .value) (a .behind))
+    let a = start .args in search (needs, length-number (a .value) (a .following))
 
 returns : tie.Need-returns
 unfolding number-then
@@ -28,8 +28,8 @@ returns c =
     let start : tie.Start = search c in
     let a = start .args in
     let n = c .before .before .put-numeral .ensures in (
-      omega (arith, length-number (a .value) (a .behind)),
-      rw (n .1, n .0) (sym (sets-append (a .output .now) (a .at) (numeral (a .value)) (a .behind ∷ []))),
+      omega (arith, length-number (a .value) (a .following)),
+      rw (n .1, n .0) (sym (sets-append (a .output .now) (a .at) (numeral (a .value)) (a .following ∷ []))),
     )
 
 pub put-number-spec : {M : Type 1} → statement M

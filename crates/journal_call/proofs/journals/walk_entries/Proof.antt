@@ -177,11 +177,11 @@ module _ {M : Type 1} (𝓤 : URA M) (H : Heap 𝓤) (A : Atoms 𝓤) (W : Given
       move ! (3 ∷ 0 ∷ []) $ fjoin ! $ move ! (1 ∷ 0 ∷ []) $ fjoin ! $ move ! (4 ∷ 3 ∷ []) $ join ! $ use2 W (raw (PieceAt 𝓤 H A mem run .pre (to x ns))) (asked x ns) $ move ! (0 ∷ 2 ∷ 1 ∷ []) $ done !
 
   -- the machine value of a turn, and the sizes of its numbers
-  told : (r : Turn) (w : Val) → Is S.the-row r (w ∷ []) → w ∷ [] ≡ S′.lowered r ∷ []
-  told r w is = LL.tells S.the-type S′.the-laws r (w ∷ []) is
+  value-of : (r : Turn) (w : Val) → Is S.the-row r (w ∷ []) → w ∷ [] ≡ S′.lowered r ∷ []
+  value-of r w is = LL.tells S.the-type S′.the-laws r (w ∷ []) is
 
   lowered-is : (r : Turn) (w : Val) → Is S.the-row r (w ∷ []) → Is S.the-row r (S′.lowered r ∷ [])
-  lowered-is r w is = subst (λ (u : List Val). Is S.the-row r u) (told r w is) is
+  lowered-is r w is = subst (λ (u : List Val). Is S.the-row r u) (value-of r w is) is
 
   position-of : (r : Turn) (w : Val) → Is S.the-row r (w ∷ []) → r .position < 2 ^ 64
   position-of r w is = LL.owed S.the-type S′.the-laws r _ is .1 .0 .1
@@ -277,7 +277,7 @@ module _ {M : Type 1} (𝓤 : URA M) (H : Heap 𝓤) (A : Atoms 𝓤) (W : Given
         -- the last values of the references; the other arguments have none
         fsplit ! $ drop ! $ fsplit ! $ drop ! $ fsplit ! $ drop ! $ fsplit ! $ drop ! $
         move ! (1 ∷ []) $ split ! $ move ! (1 ∷ []) $ peeks ! S.the-row (Is S.the-row) (shows 𝓤 H A S.the-row) r (w ∷ []) (λ is. land ! (from ! (stop !)) (init ! 39 refl (LL.lawful S.the-type S′.the-laws 𝓤 H A W .typed r _ is .0)) $
-        rewrite ! 39 (λ (u : Val). ‵ (fat fullShare S′.mir l₁₇ 0 u)) (ap only (told r w is)) refl $
+        rewrite ! 39 (λ (u : Val). ‵ (fat fullShare S′.mir l₁₇ 0 u)) (ap only (value-of r w is)) refl $
         -- the references come back
         move ! (1 ∷ []) $ split ! $
         move ! (1 ∷ 5 ∷ 3 ∷ []) $ use3 W (later (‵ (owned-all held (ws .1 .1 .1 .1)) ⊛ ‵ (tokens held))) (back-all 𝓤 H A W held ns (x .vs) (ws .1 .1 .1 .1)) $ await ! tt $ split ! $
@@ -291,7 +291,7 @@ module _ {M : Type 1} (𝓤 : URA M) (H : Heap 𝓤) (A : Atoms 𝓤) (W : Given
         (λ yes. assigns ! (of-opd ! (load ! (from ! (stop !)) (look ! 40 refl))) (from ! (stop !)) (init ! 74 refl (LL.lawful S.the-type S′.the-laws 𝓤 H A W .typed r _ (lowered-is r w is) .0)) $ returns-within ! Post refl (look ! 74 refl) $
         forget ! 74 refl $ forget ! 72 refl $ forget ! 70 refl $ forget ! 68 refl $ forget ! 66 refl $ forget ! 64 refl $ forget ! 62 refl $ forget ! 60 refl $ forget ! 58 refl $ forget ! 56 refl $ forget ! 54 refl $ forget ! 52 refl $ forget ! 50 refl $ forget ! 48 refl $ forget ! 46 refl $ forget ! 44 refl $ forget ! 42 refl $ forget ! 40 refl $ forget ! 38 refl $ forget ! 36 refl $ forget ! 34 refl $ forget ! 32 refl $ forget ! 30 refl $ forget ! 28 refl $ forget ! 26 refl $ forget ! 24 refl $ forget ! 22 refl $ forget ! 20 refl $ forget ! 18 refl $ forget ! 16 refl $ forget ! 14 refl $ forget ! 12 refl $ forget ! 10 refl $ forget ! 8 refl $ forget ! 6 refl $
         move ! (74 ∷ 75 ∷ []) $ free1 ! $ move ! (72 ∷ 73 ∷ []) $ free1 ! $ move ! (70 ∷ 71 ∷ []) $ free1 ! $ move ! (68 ∷ 69 ∷ []) $ free1 ! $ move ! (66 ∷ 67 ∷ []) $ free1 ! $ move ! (64 ∷ 65 ∷ []) $ free1 ! $ move ! (62 ∷ 63 ∷ []) $ free1 ! $ move ! (60 ∷ 61 ∷ []) $ free1 ! $ move ! (58 ∷ 59 ∷ []) $ free1 ! $ move ! (56 ∷ 57 ∷ []) $ free1 ! $ move ! (54 ∷ 55 ∷ []) $ free1 ! $ move ! (52 ∷ 53 ∷ []) $ free1 ! $ move ! (50 ∷ 51 ∷ []) $ free1 ! $ move ! (48 ∷ 49 ∷ []) $ free1 ! $ move ! (46 ∷ 47 ∷ []) $ free1 ! $ move ! (44 ∷ 45 ∷ []) $ free1 ! $ move ! (42 ∷ 43 ∷ []) $ free1 ! $ move ! (40 ∷ 41 ∷ []) $ free1 ! $ move ! (38 ∷ 39 ∷ []) $ free1 ! $ move ! (36 ∷ 37 ∷ []) $ free1 ! $ move ! (34 ∷ 35 ∷ []) $ free1 ! $ move ! (32 ∷ 33 ∷ []) $ free1 ! $ move ! (30 ∷ 31 ∷ []) $ free1 ! $ move ! (28 ∷ 29 ∷ []) $ free1 ! $ move ! (26 ∷ 27 ∷ []) $ free1 ! $ move ! (24 ∷ 25 ∷ []) $ free1 ! $ move ! (22 ∷ 23 ∷ []) $ free1 ! $ move ! (20 ∷ 21 ∷ []) $ free1 ! $ move ! (18 ∷ 19 ∷ []) $ free1 ! $ move ! (16 ∷ 17 ∷ []) $ free1 ! $ move ! (14 ∷ 15 ∷ []) $ free1 ! $ move ! (12 ∷ 13 ∷ []) $ free1 ! $ move ! (10 ∷ 11 ∷ []) $ free1 ! $ move ! (8 ∷ 9 ∷ []) $ free1 ! $ move ! (6 ∷ 7 ∷ []) $ free1 ! $ free0 ! $
-        keep ! (5 ∷ 2 ∷ 3 ∷ 4 ∷ 0 ∷ 1 ∷ []) $ rewrite ! 0 (λ (u : Val). ‵ (S.the-row .own r (u ∷ []))) (ap only (told r w is)) refl $ by ! (exits (ws .1 .1 .1 .1) r (S′.lowered r) (e .ends (holds (r .stopped) yes))))
+        keep ! (5 ∷ 2 ∷ 3 ∷ 4 ∷ 0 ∷ 1 ∷ []) $ rewrite ! 0 (λ (u : Val). ‵ (S.the-row .own r (u ∷ []))) (ap only (value-of r w is)) refl $ by ! (exits (ws .1 .1 .1 .1) r (S′.lowered r) (e .ends (holds (r .stopped) yes))))
         (λ no. skips ! $
         forget ! 40 refl $ forget ! 38 refl $ forget ! 36 refl $ forget ! 34 refl $ forget ! 32 refl $ forget ! 30 refl $ forget ! 28 refl $ forget ! 26 refl $ forget ! 24 refl $ forget ! 22 refl $ forget ! 20 refl $ forget ! 18 refl $ forget ! 16 refl $ forget ! 14 refl $ forget ! 12 refl $ forget ! 10 refl $ forget ! 8 refl $ forget ! 6 refl $
         keep ! (2 ∷ 3 ∷ 4 ∷ 0 ∷ 1 ∷ 6 ∷ 7 ∷ 8 ∷ 9 ∷ 10 ∷ 11 ∷ 12 ∷ 13 ∷ 14 ∷ 15 ∷ 16 ∷ 17 ∷ 18 ∷ 19 ∷ 20 ∷ 21 ∷ 22 ∷ 23 ∷ 24 ∷ 25 ∷ 26 ∷ 27 ∷ 28 ∷ 29 ∷ 30 ∷ 31 ∷ 32 ∷ 33 ∷ 34 ∷ 35 ∷ 36 ∷ 37 ∷ 38 ∷ 39 ∷ 40 ∷ 41 ∷ 42 ∷ 43 ∷ 44 ∷ 45 ∷ 46 ∷ 47 ∷ 48 ∷ 49 ∷ 50 ∷ 51 ∷ 52 ∷ 53 ∷ 54 ∷ 55 ∷ 56 ∷ 57 ∷ 58 ∷ 59 ∷ 60 ∷ 61 ∷ 62 ∷ 63 ∷ 64 ∷ 65 ∷ 66 ∷ 67 ∷ 68 ∷ 69 ∷ 70 ∷ 71 ∷ 72 ∷ 73 ∷ 74 ∷ 75 ∷ []) $ again ! less I x (next r w is (ws .1 .1 .1 .1) (e .goes (fails (r .stopped) no) .2)) (omega (arith, e .goes (fails (r .stopped) no) .0, e .goes (fails (r .stopped) no) .1))))))))))

@@ -19,15 +19,15 @@ check-all-requires c κs =
     let passed : tie.Else1 = search after-rows in
     let after-early-refusal-of : tie.After-early-refusal-of = search passed in
     let first : tie.Start = search after-early-refusal-of in
-    let told = after-early-refusal-of .early-refusal-of .ensures in
+    let refusal-is = after-early-refusal-of .early-refusal-of .ensures in
     let a = first .args in
     let g = first .good .1 .0 .1 .1 .0 .1 .1 in
     let q = g .1 .1 .1 .0 .1 .1 in
     let ty = typed (a .state .words) _ _ _ _ _ _ _ _ _ (g .0) (g .1 .0) (g .1 .1 .0) (q .0) (q .1 .0) (q .1 .1 .0) (q .1 .1 .1 .0) (g .1 .1 .1 .1 .0) (g .1 .1 .1 .1 .1 .0) in (
-      ready _ _ (a .threads .now) (a .kinds .now) (a .domains .now) _ told (passed .if1 .left) ty,
+      ready _ _ (a .threads .now) (a .kinds .now) (a .domains .now) _ refusal-is (passed .if1 .left) ty,
       (
-        kinds-long _ _ (a .threads .now) (a .kinds .now) (a .domains .now) _ told (passed .if1 .left),
-        (domains-long _ _ (a .threads .now) (a .kinds .now) (a .domains .now) _ told (passed .if1 .left), (refl, refl)),
+        kinds-long _ _ (a .threads .now) (a .kinds .now) (a .domains .now) _ refusal-is (passed .if1 .left),
+        (domains-long _ _ (a .threads .now) (a .kinds .now) (a .domains .now) _ refusal-is (passed .if1 .left), (refl, refl)),
       ),
     )
 

@@ -2,7 +2,7 @@
 use mathlib.Core.Path.{refl, ap}
 use Rattle.lock.proofs.steps.Answering.{run-refuses, run-passes, early-passes, first-small, kinds-few, run-answered, reported-first}
 use Rattle.model.specs.Refusals.{refusal}
-use Rattle.lock.proofs.Telling.{refused-reported, accepted-reported}
+use Rattle.lock.proofs.Reporting.{refused-reported, accepted-reported}
 use borrow.Author.Needs.{needs}
 use Rattle.lock.proofs.lent.run_tested.Statement.{statement}
 use Rattle.lock.proofs.lent.run_tested.Tie as tie

@@ -36,7 +36,7 @@ pub fn print(worst: &mut Worst) {
         Some(calls) => calls,
         None => return,
     };
-    println!("a run that tells its steps, 65536 entries: nanoseconds a step, of the step table and the library; their ratio; microseconds a check of the state after it");
+    println!("a run that reports its steps, 65536 entries: nanoseconds a step, of the step table and the library; their ratio; microseconds a check of the state after it");
     for shape in shapes(false).into_iter().chain(shapes(true)) {
         for (name, style) in SCHEDULES {
             let draft = draft_with_schedule(shape, style, 65_536);

@@ -29,7 +29,7 @@ const ALIKE: &[&[&str]] = &[
     &["with-tail", "with-next", "with-status"],
     &["lock-at", "next-at", "status-at"],
     &["store-lock", "store-next", "store-status"],
-    &["from-acquire", "from-release", "behind-17", "behind-29", "behind-31", "behind-41", "behind-43", "behind-82"],
+    &["from-acquire", "from-release", "after-17", "after-29", "after-31", "after-41", "after-43", "after-82"],
     &["outside", "critical", "line-7", "line-9", "line-13", "line-16", "line-17", "line-25", "line-29"],
     &["line-31", "line-41", "line-43", "line-66", "line-67", "line-69", "line-72", "line-82"],
     &["line-10", "line-11", "line-14", "line-27", "line-35", "line-53", "line-57", "line-58", "line-68", "line-71"],

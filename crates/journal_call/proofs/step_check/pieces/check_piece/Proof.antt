@@ -2,7 +2,7 @@
 use mathlib.Core.Path.{ap, _∙_}
 use native.Mathlib.Omega.{arith}
 use lib.ListN.{length}
-use Rattle.lock.proofs.steps.Telling.{reported-front-length}
+use Rattle.lock.proofs.steps.Reporting.{reported-front-length}
 use Rattle.journal_call.proofs.step_check.Piecing.{tests, comparable, piece-passes, piece-stops}
 use borrow.Author.Needs.{needs}
 use Rattle.journal_call.proofs.step_check.pieces.check_piece.Statement.{statement}

@@ -12,24 +12,24 @@ lent-counter-refusal-of-requires c κs =
 
 returns : tie.Need-returns
 returns c =
-    let told : tie.After-lent-counter-refusal-of = search c in
-    let after-first-unknown : tie.After-first-unknown = search told in
+    let after-lent-counter-refusal-of : tie.After-lent-counter-refusal-of = search c in
+    let after-first-unknown : tie.After-first-unknown = search after-lent-counter-refusal-of in
     let first : tie.Start = search after-first-unknown in
-    counter-stops _ _ _ (first .pre .0) (first .pre .1) _ (after-first-unknown .first-unknown .ensures) _ (told .lent-counter-refusal-of .ensures) (c .before .if1 .taken) _ (c .number-index .ensures)
+    counter-stops _ _ _ (first .pre .0) (first .pre .1) _ (after-first-unknown .first-unknown .ensures) _ (after-lent-counter-refusal-of .lent-counter-refusal-of .ensures) (c .before .if1 .taken) _ (c .number-index .ensures)
 
 returns-2 : tie.Need-returns-2
 returns-2 c =
-    let told : tie.After-lent-counter-refusal-of = search c in
-    let after-first-unknown : tie.After-first-unknown = search told in
+    let after-lent-counter-refusal-of : tie.After-lent-counter-refusal-of = search c in
+    let after-first-unknown : tie.After-first-unknown = search after-lent-counter-refusal-of in
     let first : tie.Start = search after-first-unknown in
-    thread-stops _ _ _ (first .pre .0) (first .pre .1) _ (after-first-unknown .first-unknown .ensures) _ (told .lent-counter-refusal-of .ensures) (c .before .if1 .left) (c .if2 .taken)
+    thread-stops _ _ _ (first .pre .0) (first .pre .1) _ (after-first-unknown .first-unknown .ensures) _ (after-lent-counter-refusal-of .lent-counter-refusal-of .ensures) (c .before .if1 .left) (c .if2 .taken)
 
 returns-3 : tie.Need-returns-3
 returns-3 c =
-    let told : tie.After-lent-counter-refusal-of = search c in
-    let after-first-unknown : tie.After-first-unknown = search told in
+    let after-lent-counter-refusal-of : tie.After-lent-counter-refusal-of = search c in
+    let after-first-unknown : tie.After-first-unknown = search after-lent-counter-refusal-of in
     let first : tie.Start = search after-first-unknown in
-    nothing-stops _ _ _ (first .pre .0) (first .pre .1) _ (after-first-unknown .first-unknown .ensures) _ (told .lent-counter-refusal-of .ensures) (c .before .if1 .left) (c .if2 .left)
+    nothing-stops _ _ _ (first .pre .0) (first .pre .1) _ (after-first-unknown .first-unknown .ensures) _ (after-lent-counter-refusal-of .lent-counter-refusal-of .ensures) (c .before .if1 .left) (c .if2 .left)
 
 pub stretch-of-spec : {M : Type 1} → statement M
 stretch-of-spec =

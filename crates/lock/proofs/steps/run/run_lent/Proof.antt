@@ -13,7 +13,7 @@ use Rattle.refusals.specs.Arrays.{places-in, lent-state}
 use Rattle.lock.specs.Steps.Counting.{Marked}
 use Rattle.rows.specs.Common.Counting.{Clear}
 use Rattle.lock.proofs.steps.SoFar.{So-far, start, kind-room, now-placed, turn, state-ends, trace-ends, kinds-end, thread-at}
-use Rattle.lock.proofs.steps.Telling.{Coded, codes-start, codes-turn, codes-end}
+use Rattle.lock.proofs.steps.Reporting.{Coded, codes-start, codes-turn, codes-end}
 use Rattle.lock.proofs.steps.Tallying.{Tallied, tallied-start, tallied-turn, tallied-ends}
 use Rattle.lock.proofs.steps.Turns.{thread-small, ready}
 use Rattle.rows.proofs.common.Shown.{clear-none}

@@ -1,8 +1,8 @@
--- `runs_call::with_kinds::telling::domain_of` meets its contract: both rows without a domain are compared in turn.
+-- `runs_call::with_kinds::reporting::domain_of` meets its contract: both rows without a domain are compared in turn.
 use borrow.Author.Tests.{eq-eqb, ne-eqb}
 use borrow.Author.Needs.{needs}
-use Rattle.runs_call.proofs.with_kinds.telling.domain_of.Statement.{statement}
-use Rattle.runs_call.proofs.with_kinds.telling.domain_of.Tie as tie
+use Rattle.runs_call.proofs.with_kinds.reporting.domain_of.Statement.{statement}
+use Rattle.runs_call.proofs.with_kinds.reporting.domain_of.Tie as tie
 
 returns : tie.Need-returns
 returns c = rw (eq-eqb _ _ (c .before .if1 .taken)) (c .byte-word .ensures)

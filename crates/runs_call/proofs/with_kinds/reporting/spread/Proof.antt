@@ -1,4 +1,4 @@
--- `runs_call::with_kinds::telling::spread` meets its contract: the steps from a given one on have two numbers each.
+-- `runs_call::with_kinds::reporting::spread` meets its contract: the steps from a given one on have two numbers each.
 use mathlib.Core.Path.{_≡_}
 use Prim.Native.Nat.{_+_, _-_, _*_, _%_, _≤_}
 use native.Mathlib.Omega.{arith}
@@ -6,8 +6,8 @@ use lib.ListN.{length, getD, length-set}
 use borrow.Author.Needs.{needs}
 use Rattle.runs_call.specs.WithKinds.Spreading.{Spread}
 use Rattle.runs_call.proofs.with_kinds.Spreading.{spread-none, spread-one}
-use Rattle.runs_call.proofs.with_kinds.telling.spread.Statement.{statement}
-use Rattle.runs_call.proofs.with_kinds.telling.spread.Tie as tie
+use Rattle.runs_call.proofs.with_kinds.reporting.spread.Statement.{statement}
+use Rattle.runs_call.proofs.with_kinds.reporting.spread.Tie as tie
 
 abbrev Inv-loop : tie.InvT-loop
 Inv-loop homes schedule rows₀ k₀ rows k = (k ≤ length schedule) × Spread homes schedule rows₀ k rows

@@ -113,7 +113,7 @@ fn refusal_of<'s, 'c>(
 }
 
 // Number and place of the answer, the run's counts and the number of rows written; if refused, all counts 0 and no rows.
-pub(crate) struct Told {
+pub(crate) struct Reported {
     pub number: u32,
     pub place: u32,
     pub counts: Counts,
@@ -138,7 +138,7 @@ pub(crate) fn run_reported(
     schedule: &[u16],
     trace: &mut [u16],
     rows: &mut [u16],
-) -> Told
+) -> Reported
     requires { ⌜ Typed (lent-state (now tails) (now nexts) (now statuses) (now places) (now domains) (now peers) (now words) (now ticket) (now granted)) ⌝ }
     ensures { λ r. ⌜ (let before = lent-lock (now (tails .entry)) (now (nexts .entry)) (now (statuses .entry)) (now (places .entry)) (now (domains .entry)) (now (peers .entry)) (now (words .entry)) (now (ticket .entry)) (now (granted .entry)) (now (entries .entry)) (now (tenures .entry)) (now (longest .entry)) in
         r ≡ reported-beside (kinds-answer tree before (now (schedule .entry)) (now (trace .entry)) (now (rows .entry)))) ⌝ }
@@ -171,7 +171,7 @@ pub(crate) fn run_reported(
     );
     if r.number != 0 {
         let counts = run::counts_of(&kinds);
-        return Told {
+        return Reported {
             number: r.number,
             place: r.place,
             counts,
@@ -200,7 +200,7 @@ pub(crate) fn run_reported(
     spread(&tree.homes, schedule, rows);
     let counts = run::counts_of(&kinds);
     let written = casts::index_number(schedule.len());
-    Told {
+    Reported {
         number: 0,
         place: 0,
         counts,

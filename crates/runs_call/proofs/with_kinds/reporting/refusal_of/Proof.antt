@@ -1,9 +1,9 @@
--- `runs_call::with_kinds::telling::refusal_of` meets its contract: the tests before 28 refuse, or 28 does, or 19 decides.
+-- `runs_call::with_kinds::reporting::refusal_of` meets its contract: the tests before 28 refuse, or 28 does, or 19 decides.
 use Rattle.model.specs.Refusals.{refusal}
 use Rattle.runs_call.proofs.with_kinds.Refused.{run-answered, room-answered, alone, counters-answered}
 use borrow.Author.Needs.{needs}
-use Rattle.runs_call.proofs.with_kinds.telling.refusal_of.Statement.{statement}
-use Rattle.runs_call.proofs.with_kinds.telling.refusal_of.Tie as tie
+use Rattle.runs_call.proofs.with_kinds.reporting.refusal_of.Statement.{statement}
+use Rattle.runs_call.proofs.with_kinds.reporting.refusal_of.Tie as tie
 
 returns : tie.Need-returns
 returns c = run-answered _ _ _ _ _ _ (c .before .before .lent-refusal-of .ensures) (c .if1 .taken)
@@ -17,8 +17,8 @@ returns-2 c =
 lent-counter-refusal-of-requires : tie.Need-lent-counter-refusal-of-requires
 lent-counter-refusal-of-requires c κs =
     let passed = c .before in
-    let told = passed .before .before in
-    (told .before .before .pre, alone _ _ _ _ 0 _ (told .lent-refusal-of .ensures) (passed .if1 .left))
+    let asked = passed .before .before in
+    (asked .before .before .pre, alone _ _ _ _ 0 _ (asked .lent-refusal-of .ensures) (passed .if1 .left))
 
 returns-3 : tie.Need-returns-3
 returns-3 c =

@@ -100,10 +100,10 @@ module _ (t : Tree) (s : State) (i d : ℕ) (pos : 0 < d) (room : Has-room (s .p
   raise-ends p (r ∷ ms) m e = absurd (let z = ap ending (head-eq-of-cons-eq e) in omega arith)
 
   -- BOTH, FOR EVERY ROW
-  abbrev pub Tells : Place → Row-result → Type 0
-  Tells p x = Lands (tenure-word p x) x × Ends p (place-domain (t .home i) p) x
+  abbrev pub Reports : Place → Row-result → Type 0
+  Reports p x = Lands (tenure-word p x) x × Ends p (place-domain (t .home i) p) x
 
-  branch-reports : {p : Place} {x : Row-result} → Branch t i s p x → Tells p x
+  branch-reports : {p : Place} {x : Row-result} → Branch t i s p x → Reports p x
   unfolding checks-at word-to-grant row-shown standing-shown ends-shown entry-shown is-entry ending
   branch-reports (idle-draws z (draw-shown e)) = (elsewhere Inside refl, other-shown Idle _ refl)
   branch-reports (idle-draws z (draw-unshown e)) = (elsewhere Watch refl, other-shown Idle _ refl)
@@ -151,5 +151,5 @@ module _ (t : Tree) (s : State) (i d : ℕ) (pos : 0 < d) (room : Has-room (s .p
   branch-reports raise-counts = (elsewhere (done-place t i 0) (no-done (eqb 0 (t .home i)) (child t i 0)), raise-ends Raise (shown-members t s (wrap (s .grant + 1))))
   branch-reports invalid-stays = (λ j r w y. inl y, none-shown Invalid)
 
-  pub row-reports : (p : Place) → Tells p (row t i p s)
+  pub row-reports : (p : Place) → Reports p (row t i p s)
   row-reports p = branch-reports (branch t i s p)

@@ -1,4 +1,4 @@
--- `runs_call::with_kinds::telling::run_reported` meets its contract: refused, or run, with two numbers for each reported step.
+-- `runs_call::with_kinds::reporting::run_reported` meets its contract: refused, or run, with two numbers for each reported step.
 use mathlib.Core.Path.{refl, ap}
 use native.Mathlib.Omega.{arith}
 use Rattle.lock.proofs.steps.Answering.{early-passes, kinds-few}
@@ -6,8 +6,8 @@ use Rattle.model.specs.Refusals.{refusal}
 use Rattle.runs_call.specs.WithKinds.Spreading.{reported-beside}
 use Rattle.runs_call.proofs.with_kinds.Answering.{reported-refuses, as-run, short, codes-fit, threads-fit, rows-reported, reported-answered}
 use borrow.Author.Needs.{needs}
-use Rattle.runs_call.proofs.with_kinds.telling.run_reported.Statement.{statement}
-use Rattle.runs_call.proofs.with_kinds.telling.run_reported.Tie as tie
+use Rattle.runs_call.proofs.with_kinds.reporting.run_reported.Statement.{statement}
+use Rattle.runs_call.proofs.with_kinds.reporting.run_reported.Tie as tie
 
 -- earlier points of the code: the start, after the tests, where they have passed, and after the steps
 abbrev first : tie.After-refusal-of → tie.Start
@@ -68,16 +68,16 @@ returns-2 c =
     let r = ran put in
     let p = passed r in
     let q = asked p in
-    let told = q .refusal-of .ensures in
+    let refusal-is = q .refusal-of .ensures in
     let a = first q .args in
     let e = r .run-lent .ensures in
-    let answer = reported-answered _ _ (a .schedule .now) (a .trace .now) (a .rows .now) _ told (p .if1 .left) _ _ _ _ _ _ (e .0) (e .1 .0) (e .1 .1 .0) (c .before .«counts-of2» .ensures) (e .1 .1 .1 .1) (c .index-number .ensures) in (
+    let answer = reported-answered _ _ (a .schedule .now) (a .trace .now) (a .rows .now) _ refusal-is (p .if1 .left) _ _ _ _ _ _ (e .0) (e .1 .0) (e .1 .1 .0) (c .before .«counts-of2» .ensures) (e .1 .1 .1 .1) (c .index-number .ensures) in (
       ap reported-beside (answer .0),
       (
         ap (λ r. r .state) (answer .0),
         (
           answer .1,
-          rows-reported _ _ (a .schedule .now) (a .trace .now) (a .rows .now) _ told (p .if1 .left) (first q .pre) _ _ (e .1 .1 .1 .0) (put .spread .ensures),
+          rows-reported _ _ (a .schedule .now) (a .trace .now) (a .rows .now) _ refusal-is (p .if1 .left) (first q .pre) _ _ (e .1 .1 .1 .0) (put .spread .ensures),
         ),
       ),
     )
