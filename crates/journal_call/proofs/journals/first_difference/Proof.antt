@@ -1,23 +1,18 @@
 -- `journal_call::journals::first_difference` meets its contract: all entries so far name the reported kinds.
-use mathlib.Core.Path.{_≡_}
-use mathlib.Core.Bool.{false}
-use Prim.Native.Nat.{ℕ, _≤_, _<_, _-_}
+use Prim.Native.Nat.{_-_}
 use native.Mathlib.Omega.{arith}
 use borrow.Author.Tests.{eq-eqb, ne-eqb}
-use Rattle.refusals.proofs.Scanning.{one-more}
+use Rattle.refusals.proofs.Scanning.{Scanned, scan-begun, scan-goes-on, scan-found, scan-ended}
 use Rattle.journal_call.specs.Kinds.{other-kind}
 use borrow.Author.Needs.{needs}
 use Rattle.journal_call.proofs.journals.first_difference.Statement.{statement}
 use Rattle.journal_call.proofs.journals.first_difference.Tie as tie
 
 abbrev Inv-loop : tie.InvT-loop
-Inv-loop kinds codes count k₀ k = (k ≤ count) × ((j : ℕ) → j < k → other-kind kinds codes j ≡ false)
+Inv-loop kinds codes count k₀ k = Scanned count (other-kind kinds codes) k
 
 abbrev μ-loop : tie.MeasureT-loop
 μ-loop kinds codes count k₀ k = count - k
-
-loop-holds : tie.Need-loop-holds Inv-loop μ-loop
-loop-holds c = (omega arith, λ j l. absurd (omega arith))
 
 cast-kind : tie.Need-cast-kind Inv-loop μ-loop
 cast-kind c = omega (arith, c .shared-slice-known .given (c .before .before .loop .k))
@@ -25,15 +20,12 @@ cast-kind c = omega (arith, c .shared-slice-known .given (c .before .before .loo
 returns : tie.Need-returns Inv-loop μ-loop
 returns c =
     let at-loop : tie.At-loop Inv-loop μ-loop = search c in
-    record { within = omega arith; passed = at-loop .loop .inv .1; fails = λ _. rw (ne-eqb _ _ (c .if1 .taken)) }
+    scan-found _ _ _ (at-loop .loop .inv) (rw (ne-eqb _ _ (c .if1 .taken)))
 
 loop-again : tie.Need-loop-again Inv-loop μ-loop
 loop-again c =
     let at-loop : tie.At-loop Inv-loop μ-loop = search c in
-    (omega arith, one-more _ false _ (at-loop .loop .inv .1) (rw (eq-eqb _ _ (c .if1 .left))))
-
-returns-2 : tie.Need-returns-2 Inv-loop μ-loop
-returns-2 c = record { within = omega arith; passed = c .before .loop .inv .1; fails = λ h. absurd (omega arith) }
+    scan-goes-on _ _ _ (at-loop .loop .inv) (omega arith) (rw (eq-eqb _ _ (c .if1 .left)))
 
 pub first-difference-spec : {M : Type 1} → statement M
 first-difference-spec =
@@ -41,7 +33,7 @@ first-difference-spec =
     (tie.spec
     Inv-loop
     μ-loop
-    loop-holds
+    (λ c. scan-begun _ _)
     (λ c. search needs)
     cast-kind
     (λ c. search needs)
@@ -50,4 +42,4 @@ first-difference-spec =
     (λ c. search needs)
     (λ c. search needs)
     loop-again
-    returns-2)
+    (λ c. scan-ended _ _ _ (c .before .loop .inv) (omega arith)))

@@ -2,6 +2,7 @@
 use Prim.Native.Nat.{_≤_, _<_, _-_}
 use native.Mathlib.Omega.{arith}
 use Rattle.refusals.proofs.Levels.{Levels, levels-first, levels-next, level-passes, level-fails}
+use Rattle.refusals.proofs.Scanning.{scan-found, scan-ended}
 use borrow.Author.Needs.{needs}
 use Rattle.refusals.proofs.trees.lowest_too_deep.Statement.{statement}
 use Rattle.refusals.proofs.trees.lowest_too_deep.Tie as tie
@@ -39,11 +40,8 @@ returns c =
     let at-loop : tie.At-loop Inv-loop μ-loop = search c in
     let s : tie.Start Inv-loop μ-loop = search at-loop in
     let l = at-loop .loop in
-    record {
-      within = omega arith;
-      passed = level-passes _ _ _ _ (l .inv .2) (s .pre .1);
-      fails = λ h. level-fails _ _ _ _ (l .inv .2) (s .pre .1) (l .inv .0) h (c .if1 .taken);
-    }
+    scan-found _ _ _ (omega arith, level-passes _ _ _ _ (l .inv .2) (s .pre .1))
+    (level-fails _ _ _ _ (l .inv .2) (s .pre .1) (l .inv .0) (omega arith) (c .if1 .taken))
 
 loop-again : tie.Need-loop-again Inv-loop μ-loop
 loop-again c =
@@ -56,7 +54,7 @@ returns-2 : tie.Need-returns-2 Inv-loop μ-loop
 returns-2 c =
     let l = c .before .loop in
     let s = c .before .before in
-    record { within = omega arith; passed = level-passes _ _ _ _ (l .inv .2) (s .pre .1); fails = λ h. absurd (omega arith) }
+    scan-ended _ _ _ (omega arith, level-passes _ _ _ _ (l .inv .2) (s .pre .1)) (omega arith)
 
 pub lowest-too-deep-spec : {M : Type 1} → statement M
 lowest-too-deep-spec =

@@ -8,6 +8,7 @@ use Rattle.model.specs.Counters.{lock-state}
 use Rattle.model.proofs.Laws.Calls.{early-facts}
 use Rattle.refusals.specs.Arrays.{lent-state}
 use Rattle.refusals.specs.OfRuns.Counts.{counters-in}
+use Rattle.refusals.proofs.Scanning.{scan-found, scan-ended}
 use Rattle.lock.proofs.steps.Trying.{tried-start, tried-asks, tried-count, tried-next, Tries}
 use borrow.Author.Needs.{needs}
 use Rattle.lock.proofs.steps.limits.lowest_above.Statement.{statement}
@@ -54,11 +55,8 @@ returns c =
     let test = in-loop .loop-test .taken in
     let so-far = at-loop .loop .inv R in
     let ran = after-run-lent .run-lent .ensures in
-    record {
-      within = omega (arith, test);
-      passed = so-far .passed;
-      fails = λ h. sym (tried-count _ _ _ _ _ R _ _ _ test so-far _ _ (ran .0) (ran .1 .1 .1 .1)) ∙ sym (c .before .is-above .ensures) ∙ c .if1 .taken;
-    }
+    scan-found _ _ _ (so-far .within, so-far .passed)
+    (sym (tried-count _ _ _ _ _ R _ _ _ test so-far _ _ (ran .0) (ran .1 .1 .1 .1)) ∙ sym (c .before .is-above .ensures) ∙ c .if1 .taken)
 
 add-k : tie.Need-add-k Inv-loop μ-loop
 add-k c =
@@ -87,7 +85,7 @@ unfolding Tries
 returns-2 c =
     let start : tie.Start Inv-loop μ-loop = search c in
     let so-far = c .before .loop .inv (early-facts (tree-of (start .args .tree)) _ _ _ (start .pre .1)) in
-    record { within = so-far .within; passed = so-far .passed; fails = λ h. absurd (omega (arith, c .loop-test .left)) }
+    scan-ended _ _ _ (so-far .within, so-far .passed) (omega (arith, c .loop-test .left))
 
 pub lowest-above-spec : {M : Type 1} → statement M
 lowest-above-spec =
