@@ -1,4 +1,5 @@
 -- What several proofs use.
+pub mod Marking
 pub mod Stepping
 pub mod Journaling
 pub mod Lending

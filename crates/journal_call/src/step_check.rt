@@ -6,6 +6,7 @@ ghost use Rattle.model.specs.Trees.{tree-of};
 ghost use Rattle.refusals.specs.Arrays.{refusal-words};
 ghost use Rattle.journal.specs.StepCheck.Answers.{early-refusal, steps-answer};
 
+mod comparison;
 mod pieces;
 
 use journal::step_check::StepsReply;

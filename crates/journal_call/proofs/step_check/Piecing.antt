@@ -74,6 +74,7 @@ module _ (w : TreeWords) (s : LockState) (is ks ds : List ℕ) (g : Ready (tree-
     pub comparable : Comparable is ks ds codes (st .steps)
     comparable =
         record {
+          few = omega (arith, S .within, few);
           threads-long = S .within;
           kinds-long = omega (arith, S .within, ks-long);
           domains-long = omega (arith, S .within, ds-long);

@@ -59,13 +59,35 @@ same-domain hs is ds cs j = eqb (getD ds j 0) (row-domain (getD hs (getD is j 0)
 abbrev pub differs : (homes threads kinds domains codes : List ℕ) → (position : ℕ) → Bool
 differs hs is ks ds cs j = not (same-kind ks cs j && same-domain hs is ds cs j)
 
+-- none of the first numbers is larger
+abbrev pub None-larger : (numbers : List ℕ) → (count most : ℕ) → Type 0
+None-larger ns n m = (j : ℕ) → j < n → getD ns j 0 ≤ m
+
+-- the first threads are in the table of homes
+abbrev pub Have-homes : (threads : List ℕ) → (count : ℕ) → Type 0
+Have-homes is n = (j : ℕ) → j < n → getD is j 0 < 256
+
+-- the homes of the first threads, in their order
+pub record Homes-of (homes threads : List ℕ) (count : ℕ) (found : List ℕ) : Type 0 where
+  pub room : length found ≡ 1024
+  pub home : (j : ℕ) → j < count → getD found j 0 ≡ getD homes (getD threads j 0) 0
+
+-- the first named domains are those of the steps, given the homes of the threads in their order
+abbrev pub All-same-domains : (found domains codes : List ℕ) → (count : ℕ) → Type 0
+All-same-domains fs ds cs n = (j : ℕ) → j < n → not (eqb (getD ds j 0) (row-domain (getD fs j 0) ((getD cs j 0 / 8) % 16) (getD cs j 0 / 128))) ≡ false
+
+-- the first named steps have the reported kinds and domains
+abbrev pub All-same : (homes threads kinds domains codes : List ℕ) → (count : ℕ) → Type 0
+All-same hs is ks ds cs n = (j : ℕ) → j < n → differs hs is ks ds cs j ≡ false
+
 -- what a comparison requires of the lists
 pub record Comparable (threads kinds domains codes : List ℕ) (count : ℕ) : Type 0 where
+  pub few : count ≤ 1024
   pub threads-long : count ≤ length threads
   pub kinds-long : count ≤ length kinds
   pub domains-long : count ≤ length domains
   pub codes-long : count ≤ length codes
-  pub small : (j : ℕ) → j < count → getD threads j 0 < 256
+  pub small : Have-homes threads count
 
 -- a piece: three lists of equal length, and arrays for what is traced and reported
 pub record Piece-fits (threads kinds domains trace codes : List ℕ) : Type 0 where

@@ -1,19 +1,17 @@
 // Named steps piece by piece: the threads of a piece are stepped by the run's loop, and what it reports for each step is compared with what is named.
 ghost use mathlib.Core.Path.{_≡_};
-ghost use mathlib.Core.Bool.{cond};
-ghost use Prim.Native.Nat.{_%_, _≤_, _<_};
-ghost use lib.Dec.{eqb};
+ghost use Prim.Native.Nat.{_≤_};
 ghost use lib.ListN.{length, take};
 ghost use Rattle.model.specs.Trees.{tree-of};
 ghost use Rattle.model.specs.Runs.{steps};
 ghost use Rattle.model.specs.Laws.{Typed};
 ghost use Rattle.model.specs.Refusals.{first-refusal, run-tests-before-19};
 ghost use Rattle.refusals.specs.Arrays.{lent-state};
-ghost use Rattle.refusals.specs.Lowest.{Lowest};
 ghost use Rattle.lock.specs.Steps.Running.{codes-front};
 ghost use Rattle.journal.specs.StepCheck.Answers.{checked};
 ghost use Rattle.journal.specs.StepCheck.Laws.{after-first};
-ghost use Rattle.journal_call.specs.StepCheck.Stretches.{lent-lock, found-of, Ready, unknown, Stretch, differs, Comparable, Piece-fits};
+ghost use Rattle.journal_call.specs.StepCheck.Stretches.{lent-lock, found-of, Ready, Stretch, Piece-fits};
+use crate::step_check::comparison;
 use lock::steps::limits;
 use lock::steps::run;
 use model::TreeWords;
@@ -22,20 +20,6 @@ use model::TreeWords;
 pub(crate) struct Found {
     pub number: u32,
     pub steps: usize,
-}
-
-// The first thread that is not in the tree; the number of threads if all are.
-fn first_unknown(threads: &[u16], known: u32) -> usize
-    ensures { λ r. ⌜ Lowest (length (now (threads .entry))) (unknown known (now (threads .entry))) r ⌝ }
-{
-    let mut k: usize = 0;
-    while k < threads.len() {
-        if known <= casts::word_number(threads[k]) {
-            return k;
-        }
-        k += 1;
-    }
-    k
 }
 
 // How many threads of a piece can be stepped: those before the first that 12 or 19 refuses.
@@ -60,7 +44,7 @@ fn stretch_of<'s, 'c>(
     ensures { λ r. ⌜ (let before = lent-lock (now (tails .entry)) (now (nexts .entry)) (now (statuses .entry)) (now (rows .entry)) (now (places .entry)) (now (peers .entry)) (now (words .entry)) ticket grant (now (entries .entry)) (now (tenures .entry)) (now (longest .entry)) in
         Stretch (tree-of tree) before (now (threads .entry)) r) ⌝ }
 {
-    let known = first_unknown(threads, tree.threads);
+    let known = comparison::first_unknown(threads, tree.threads);
     let r = limits::lent_counter_refusal_of(
         tree,
         tails,
@@ -93,43 +77,6 @@ fn stretch_of<'s, 'c>(
         number: 0,
         steps: known,
     }
-}
-
-// The first named step whose kind or domain is not what the run's loop reported; the number of steps if there is none.
-fn first_difference(
-    homes: &[u8; 256],
-    threads: &[u16],
-    kinds: &[u16],
-    domains: &[u16],
-    codes: &[u16],
-    count: usize,
-) -> usize
-    requires { ⌜ Comparable (now threads) (now kinds) (now domains) (now codes) count ⌝ }
-    ensures { λ r. ⌜ Lowest count (differs (now (homes .entry)) (now (threads .entry)) (now (kinds .entry)) (now (domains .entry)) (now (codes .entry))) r ⌝ }
-{
-    let mut k: usize = 0;
-    while k < count {
-        let code = codes[k];
-        if kinds[k] != code % 8 {
-            return k;
-        }
-        let home = homes[casts::word_index(threads[k])];
-        if casts::word_number(domains[k]) != run::domain_of_code(home, code) {
-            return k;
-        }
-        k += 1;
-    }
-    k
-}
-
-// The number that refuses a named step, given whether its kind is the step's.
-fn number_of(kind: u16, code: u16) -> u32
-    ensures { λ r. ⌜ r ≡ cond (eqb kind (code % 8)) 29 26 ⌝ }
-{
-    if kind == code % 8 {
-        return 29;
-    }
-    26
 }
 
 // The steps of the first threads, on borrowed arrays, each reported.
@@ -265,14 +212,14 @@ fn check_piece(
         trace,
         codes,
     );
-    let same = first_difference(&tree.homes, threads, kinds, domains, codes, count);
+    let same = comparison::first_difference(&tree.homes, threads, kinds, domains, codes, count);
     if count <= same {
         return Found {
             number: stretch.number,
             steps: count,
         };
     }
-    let number = number_of(kinds[same], codes[same]);
+    let number = comparison::number_of(kinds[same], codes[same]);
     *tails = kept_tails;
     *nexts = kept_nexts;
     *statuses = kept_statuses;

@@ -1,7 +1,7 @@
--- `journal_call::step_check::pieces::number_of` meets its contract: the kinds are compared.
+-- `journal_call::step_check::comparison::number_of` meets its contract: the kinds are compared.
 use borrow.Author.Tests.{eq-eqb, ne-eqb}
-use Rattle.journal_call.proofs.step_check.pieces.number_of.Statement.{statement}
-use Rattle.journal_call.proofs.step_check.pieces.number_of.Tie as tie
+use Rattle.journal_call.proofs.step_check.comparison.number_of.Statement.{statement}
+use Rattle.journal_call.proofs.step_check.comparison.number_of.Tie as tie
 
 returns : tie.Need-returns
 returns c = rw (eq-eqb _ _ (c .if1 .taken))

@@ -1,23 +1,18 @@
--- `journal_call::step_check::pieces::first_difference` meets its contract: all named steps so far have the reported kinds and domains.
-use mathlib.Core.Path.{_≡_}
-use mathlib.Core.Bool.{false}
-use Prim.Native.Nat.{ℕ, _≤_, _<_, _-_}
+-- `journal_call::step_check::comparison::search_difference` meets its contract: all named steps so far have the reported kinds and domains.
+use Prim.Native.Nat.{_-_}
 use native.Mathlib.Omega.{arith}
-use Rattle.refusals.proofs.Scanning.{one-more}
+use Rattle.refusals.proofs.Scanning.{Scanned, scan-begun, scan-goes-on, scan-found, scan-ended}
 use Rattle.journal_call.specs.StepCheck.Stretches.{differs}
 use Rattle.journal_call.proofs.step_check.Comparing.{kind-differs, domain-differs, both-same}
 use borrow.Author.Needs.{needs}
-use Rattle.journal_call.proofs.step_check.pieces.first_difference.Statement.{statement}
-use Rattle.journal_call.proofs.step_check.pieces.first_difference.Tie as tie
+use Rattle.journal_call.proofs.step_check.comparison.search_difference.Statement.{statement}
+use Rattle.journal_call.proofs.step_check.comparison.search_difference.Tie as tie
 
 abbrev Inv-loop : tie.InvT-loop
-Inv-loop homes threads kinds domains codes count k₀ k = (k ≤ count) × ((j : ℕ) → j < k → differs homes threads kinds domains codes j ≡ false)
+Inv-loop homes threads kinds domains codes count k₀ k = Scanned count (differs homes threads kinds domains codes) k
 
 abbrev μ-loop : tie.MeasureT-loop
 μ-loop homes threads kinds domains codes count k₀ k = count - k
-
-loop-holds : tie.Need-loop-holds Inv-loop μ-loop
-loop-holds c = (omega arith, λ j l. absurd (omega arith))
 
 mul-code : tie.Need-mul-code Inv-loop μ-loop
 mul-code c =
@@ -40,7 +35,7 @@ returns c =
     let start : tie.Start Inv-loop μ-loop = search at-loop in
     let a = start .args in
     let k = at-loop .loop .k in
-    record { within = omega arith; passed = at-loop .loop .inv .1; fails = λ _. kind-differs (a .homes .now) (a .threads .now) (a .kinds .now) (a .domains .now) (a .codes .now) k (c .if1 .taken) }
+    scan-found _ _ _ (at-loop .loop .inv) (kind-differs (a .homes .now) (a .threads .now) (a .kinds .now) (a .domains .now) (a .codes .now) k (c .if1 .taken))
 
 shared-slice-read-word-index : tie.Need-shared-slice-read-word-index Inv-loop μ-loop
 shared-slice-read-word-index c =
@@ -67,11 +62,8 @@ returns-2 c =
     let start : tie.Start Inv-loop μ-loop = search at-loop in
     let a = start .args in
     let k = at-loop .loop .k in
-    record {
-      within = omega arith;
-      passed = at-loop .loop .inv .1;
-      fails = λ _. domain-differs (a .homes .now) (a .threads .now) (a .kinds .now) (a .domains .now) (a .codes .now) k (else1 .if1 .left) _ _ _ (after-word-index .word-index .ensures) (c .before .before .word-number .ensures) (c .before .domain-of-code .ensures) (c .if2 .taken);
-    }
+    scan-found _ _ _ (at-loop .loop .inv)
+    (domain-differs (a .homes .now) (a .threads .now) (a .kinds .now) (a .domains .now) (a .codes .now) k (else1 .if1 .left) _ _ _ (after-word-index .word-index .ensures) (c .before .before .word-number .ensures) (c .before .domain-of-code .ensures) (c .if2 .taken))
 
 loop-again : tie.Need-loop-again Inv-loop μ-loop
 loop-again c =
@@ -80,22 +72,17 @@ loop-again c =
     let at-loop : tie.At-loop Inv-loop μ-loop = search else1 in
     let start : tie.Start Inv-loop μ-loop = search at-loop in
     let a = start .args in
-    let k = at-loop .loop .k in (
-      omega arith,
-      one-more _ false _ (at-loop .loop .inv .1)
-          (both-same (a .homes .now) (a .threads .now) (a .kinds .now) (a .domains .now) (a .codes .now) k (else1 .if1 .left) _ _ _ (after-word-index .word-index .ensures) (c .before .before .word-number .ensures) (c .before .domain-of-code .ensures) (c .if2 .left)),
-    )
+    let k = at-loop .loop .k in
+    scan-goes-on _ _ _ (at-loop .loop .inv) (omega arith)
+    (both-same (a .homes .now) (a .threads .now) (a .kinds .now) (a .domains .now) (a .codes .now) k (else1 .if1 .left) _ _ _ (after-word-index .word-index .ensures) (c .before .before .word-number .ensures) (c .before .domain-of-code .ensures) (c .if2 .left))
 
-returns-3 : tie.Need-returns-3 Inv-loop μ-loop
-returns-3 c = record { within = omega arith; passed = c .before .loop .inv .1; fails = λ h. absurd (omega arith) }
-
-pub first-difference-spec : {M : Type 1} → statement M
-first-difference-spec =
+pub search-difference-spec : {M : Type 1} → statement M
+search-difference-spec =
     tie.close
     (tie.spec
     Inv-loop
     μ-loop
-    loop-holds
+    (λ c. scan-begun _ _)
     mul-code
     shared-slice-read-code
     (λ c. search needs)
@@ -113,4 +100,4 @@ first-difference-spec =
     (λ c. search needs)
     (λ c. search needs)
     loop-again
-    returns-3)
+    (λ c. scan-ended _ _ _ (c .before .loop .inv) (omega arith)))
