@@ -1,5 +1,5 @@
 -- The cases of "someone can move" hold, and the law is false for states that a caller may pass in.
-use mathlib.Core.Path.{_≡_, refl, sym}
+use mathlib.Core.Path.{_≡_, refl, sym, ap, _∙_}
 use mathlib.Core.Bool.{Bool, true, false, _&&_, not, cond, true≢false}
 use mathlib.Core.List.{List, [], _∷_, _++_, nil≢cons}
 use Prim.Native.Nat.{ℕ, zero, suc, _<_}
@@ -9,17 +9,17 @@ use Rattle.model.specs.Scans.{any-below, all-below, filter-below}
 use Rattle.model.specs.Trees.{Tree, read-word, tree-of, is-ticket, is-child, is-leaf, depth-from, depth, level, meets, on-path, child-from, child, own-record, is-record, is-member, owner-domain, under}
 use Rattle.model.specs.Places.{place-of, is-idle, is-watch}
 use Rattle.model.specs.States.{place, fresh-words, fresh-state, numbers-at, store-numbers}
-use Rattle.model.specs.Steps.{stay, is-kind, is-entry, prep-row, swap-row, link-row, wait-row, leave-row, check-row, help-row, cas-row, linger-row, grant-row, draw-row, watch-row, is-watched, shown-members, raise-row, row, step}
-use Rattle.model.specs.Runs.{steps, state-after, run-of, run, ended-in, entries-under, occurrences}
-use Rattle.model.specs.Tenures.{finds-none, taken-from, given, starts, checks-at, word-to-grant, tenure-length, domain-entries, domain-tenures, longest-tenure}
-use Rattle.model.specs.Counters.{fresh-counters, each-with-index, counters-after, good-count, good-counts, count-above, any-above}
-use Rattle.model.specs.WellFormed.{good-tail, good-next, good-status, queue-on-path, good-place, good-watch, good-thread, good-counters, well-formed}
-use Rattle.model.specs.Refusals.{refusal, accepted, lowest-bad, first-refusal, bad-domains, bad-threads, bad-parent, too-deep, no-threshold, bad-home, empty-domain, tree-tests, bad-state, bad-entry, bad-counter, step-tests, tree-refusal, step-refusal}
-use Rattle.model.specs.Answers.{counters-after-run, first-kind, first-domain, step-reply, step-answer}
+use Rattle.model.specs.Steps.{stay, is-kind, prep-row, swap-row, link-row, wait-row, leave-row, check-row, help-row, cas-row, linger-row, grant-row, draw-row, watch-row, is-watched, shown-members, raise-row, row, step}
+use Rattle.model.specs.Runs.{steps, state-after, run-of, run}
+use Rattle.model.specs.WellFormed.{good-tail, queue-on-path, good-place, good-counters}
+use Rattle.model.specs.Refusals.{refusal, accepted, lowest-bad, first-refusal, bad-domains, bad-threads, bad-parent, too-deep, no-threshold, bad-home, empty-domain, tree-tests, bad-entry}
+use Rattle.model.specs.Answers.{step-reply}
 use Rattle.claims.specs.Reached.{Can-move}
 use Rattle.model.specs.Cases.Marked.{padded, tree, at-ticket-root, same-numbers, two-homes, two-in-root, one-home}
 use Rattle.model.specs.Cases.Ticket.{two-in-ticket, three-in-ticket}
 use Rattle.claims.specs.Cases.Moving.{busy-threads, moving-threads, three-in-root, until-lingering, until-woken, move-cases, move-holds, all-move, Nobody-moves, dead-queue, dead-ticket, Dead-states}
+use Rattle.model.proofs.Walks.{walked, zero-from, first-pass, formed-by-walks, zipped}
+use Rattle.model.proofs.Computing.{walked-step, same-step, sized}
 use Rattle.model.proofs.Places.{not-idle, idle-facts}
 use Rattle.model.proofs.Lists.{same-or}
 use Rattle.model.proofs.Laws.Kinds.{stay-named}
@@ -57,25 +57,30 @@ nobody t s e x = by (is-idle (place s (x .thread))) (is-kind stay (step t (x .th
     by false true i k z = x .no-stay (stay-named (step t (x .thread) s .kind) k)
     by false false i k z = true≢false z
 
+-- the step is accepted: 10 is tested by single passes, and the counters are fresh
 of-queue : Nobody-moves three-in-root dead-queue
-unfolding occurrences ended-in entries-under finds-none taken-from given starts checks-at word-to-grant tenure-length domain-entries domain-tenures
-    longest-tenure fresh-counters each-with-index counters-after good-count good-counts count-above any-above bad-counter counters-after-run is-entry any-below
-    all-below filter-below read-word tree-of is-ticket is-child is-leaf depth-from depth level meets on-path child-from child own-record is-record is-member
-    owner-domain under place-of is-watch is-idle numbers-at store-numbers fresh-words is-kind wait-row linger-row watch-row row step steps state-after good-tail good-next good-status
-    queue-on-path good-place good-watch good-thread good-counters well-formed refusal accepted lowest-bad first-refusal bad-domains bad-threads bad-parent
-    too-deep no-threshold bad-home empty-domain tree-tests bad-state bad-entry step-tests tree-refusal step-refusal first-kind first-domain step-reply
-    step-answer padded tree three-in-root moving-threads dead-queue
-of-queue = record { accepted = refl; not-idle = not-idle _ refl; nobody = nobody (tree-of three-in-root) dead-queue refl }
+unfolding walked-step formed-by-walks walked zipped zero-from first-pass any-below all-below filter-below read-word tree-of is-ticket is-child is-leaf depth-from depth
+    level meets on-path child-from child own-record is-record is-member owner-domain under place-of is-watch is-idle numbers-at store-numbers fresh-words is-kind
+    wait-row linger-row watch-row row step good-tail queue-on-path good-place good-counters refusal accepted lowest-bad first-refusal bad-domains bad-threads
+    bad-parent too-deep no-threshold bad-home empty-domain tree-tests bad-entry step-reply padded tree three-in-root moving-threads dead-queue
+of-queue =
+    record {
+      accepted = ap (λ r. r .number) (same-step three-in-root dead-queue 0 (sized dead-queue refl)) ∙ refl;
+      not-idle = not-idle _ refl;
+      nobody = nobody (tree-of three-in-root) dead-queue refl;
+    }
 
 of-ticket : Nobody-moves two-in-ticket dead-ticket
-unfolding occurrences ended-in entries-under finds-none taken-from given starts checks-at word-to-grant tenure-length domain-entries domain-tenures
-    longest-tenure fresh-counters each-with-index counters-after good-count good-counts count-above any-above bad-counter counters-after-run is-entry any-below
-    all-below filter-below read-word tree-of is-ticket is-child is-leaf depth-from depth level meets on-path child-from child own-record is-record is-member
-    owner-domain under place-of is-watch is-idle numbers-at store-numbers fresh-words is-kind wait-row linger-row watch-row row step steps state-after good-tail good-next good-status
-    queue-on-path good-place good-watch good-thread good-counters well-formed refusal accepted lowest-bad first-refusal bad-domains bad-threads bad-parent
-    too-deep no-threshold bad-home empty-domain tree-tests bad-state bad-entry step-tests tree-refusal step-refusal first-kind first-domain step-reply
-    step-answer padded tree at-ticket-root two-in-root two-in-ticket moving-threads dead-ticket
-of-ticket = record { accepted = refl; not-idle = not-idle _ refl; nobody = nobody (tree-of two-in-ticket) dead-ticket refl }
+unfolding walked-step formed-by-walks walked zipped zero-from first-pass any-below all-below filter-below read-word tree-of is-ticket is-child is-leaf depth-from depth
+    level meets on-path child-from child own-record is-record is-member owner-domain under place-of is-watch is-idle numbers-at store-numbers fresh-words is-kind
+    wait-row linger-row watch-row row step good-tail queue-on-path good-place good-counters refusal accepted lowest-bad first-refusal bad-domains bad-threads
+    bad-parent too-deep no-threshold bad-home empty-domain tree-tests bad-entry step-reply padded tree at-ticket-root two-in-root two-in-ticket moving-threads dead-ticket
+of-ticket =
+    record {
+      accepted = ap (λ r. r .number) (same-step two-in-ticket dead-ticket 0 (sized dead-ticket refl)) ∙ refl;
+      not-idle = not-idle _ refl;
+      nobody = nobody (tree-of two-in-ticket) dead-ticket refl;
+    }
 
 pub dead-states : Dead-states
 dead-states = record { of-queue = of-queue; of-ticket = of-ticket }

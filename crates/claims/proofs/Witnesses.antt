@@ -1,27 +1,28 @@
 -- The witnesses of `claims` hold.
 use mathlib.Core.Path.{_≡_, refl, ap, _∙_}
 use mathlib.Core.Bool.{Bool, true, false, _&&_, cond}
-use mathlib.Core.List.{_∷_}
+use mathlib.Core.List.{[], _∷_}
 use Prim.Native.Nat.{ℕ, zero, suc, _%_, _≤_}
 use native.Mathlib.Omega.{arith}
-use lib.Dec.{leb}
+use lib.Dec.{leb, eqb}
 use lib.ListN.{length, getD, replicate, length-replicate}
 use borrow.Author.Tests.{le-ltb}
 use Rattle.model.specs.Scans.{any-below, all-below, filter-below}
 use Rattle.model.specs.Trees.{read-word, tree-of, is-ticket, is-child, is-leaf, depth-from, depth, level, meets, on-path, child-from, child, own-record, is-record, is-member, owner-domain, under}
-use Rattle.model.specs.Places.{place-of, is-idle, is-watch}
-use Rattle.model.specs.States.{fresh-words, fresh-state, numbers-at, store-numbers}
+use Rattle.model.specs.Places.{words-of, place-of, is-idle, is-watch}
+use Rattle.model.specs.States.{place, fresh-words, fresh-state, numbers-at, store-numbers}
 use Rattle.model.specs.Steps.{is-kind, is-entry, prep-row, swap-row, link-row, wait-row, leave-row, check-row, help-row, cas-row, linger-row, grant-row, draw-row, watch-row, is-watched, shown-members, raise-row, row, step}
-use Rattle.model.specs.Runs.{steps, state-after, run-of, run, ended-in, entries-under, occurrences}
-use Rattle.model.specs.Tenures.{finds-none, taken-from, given, starts, checks-at, word-to-grant, tenure-length, domain-entries, domain-tenures, longest-tenure}
-use Rattle.model.specs.Counters.{fresh-counters, fresh-lock, each-with-index, counters-after, good-count, good-counts, count-above, any-above}
-use Rattle.model.specs.WellFormed.{good-tail, good-next, good-status, queue-on-path, good-place, good-watch, good-thread, good-counters, well-formed}
-use Rattle.model.specs.Refusals.{refusal, accepted, lowest-bad, first-refusal, bad-domains, bad-threads, bad-parent, too-deep, no-threshold, bad-home, empty-domain, tree-tests, bad-state, bad-entry, bad-counter, step-tests, tree-refusal, step-refusal}
-use Rattle.model.specs.Answers.{fresh-answer, counters-after-run, first-kind, first-domain, step-reply, step-answer}
-use Rattle.model.specs.Calls.{state-in, answer-to, answer, asked-entries, joined, Names}
+use Rattle.model.specs.Runs.{steps, state-after, run-of, run}
+use Rattle.model.specs.Counters.{fresh-lock}
+use Rattle.model.specs.WellFormed.{good-tail, queue-on-path, good-place, good-counters}
+use Rattle.model.specs.Refusals.{refusal, accepted, lowest-bad, first-refusal, bad-domains, bad-threads, bad-parent, too-deep, no-threshold, bad-home, empty-domain, tree-tests, bad-entry}
+use Rattle.model.specs.Answers.{fresh-answer, step-reply, step-answer}
+use Rattle.model.specs.Calls.{one-step, state-in, answer-to, answer, asked-entries, joined, Names}
 use Rattle.model.specs.Cases.Marked.{padded, tree, two-homes}
 use Rattle.model.specs.Cases.Counters.{one-pass}
-use Rattle.model.specs.Cases.Claim.{mixed-calls, mixed-schedule}
+use Rattle.model.specs.Cases.Claim.{call, mixed-calls, mixed-schedule}
+use Rattle.model.proofs.Walks.{walked, zero-from, first-pass, formed-by-walks, zipped}
+use Rattle.model.proofs.Computing.{walked-step, same-step, sized}
 use Rattle.model.proofs.ClaimCases.{mixed-calls-answered}
 use Rattle.model.proofs.Places.{not-idle}
 use Rattle.claims.specs.Reached.{last-state, Longest-run-law}
@@ -67,15 +68,21 @@ thresholds-one (suc (suc d)) = rw (le-ltb (suc (suc d)) 2 (omega arith)) (by (le
     by true = omega arith
     by false = omega arith
 
+-- the state after the step, whose refusal is computed by single passes
+after-one-step : last-state (call two-homes (one-step 0) ∷ []) (fresh-answer two-homes 0 .state) ≡ walked-step two-homes fresh-words 0 .state
+unfolding last-state state-in answer answer-to fresh-words
+after-one-step = ap (λ s. step-answer two-homes s 0 .state) fresh-zero ∙ ap (λ r. r .state) (same-step two-homes fresh-words 0 (sized fresh-words refl))
+
+started : eqb (words-of (place (walked-step two-homes fresh-words 0 .state .words) 0) .row) 0 ≡ false
+unfolding walked-step formed-by-walks walked zipped zero-from first-pass any-below all-below filter-below read-word tree-of is-ticket is-child is-leaf depth-from depth
+    level meets on-path child-from child own-record is-record is-member owner-domain under place-of is-watch is-idle numbers-at store-numbers fresh-words is-kind prep-row
+    row step steps state-after good-tail queue-on-path good-place good-counters refusal accepted lowest-bad first-refusal bad-domains bad-threads bad-parent too-deep
+    no-threshold bad-home empty-domain tree-tests bad-entry step-reply padded tree two-homes
+started = refl
+
 list-meets : List-meets
-unfolding occurrences ended-in entries-under finds-none taken-from given starts checks-at word-to-grant tenure-length domain-entries domain-tenures
-    longest-tenure fresh-counters each-with-index counters-after good-count good-counts count-above any-above bad-counter counters-after-run is-entry any-below
-    all-below filter-below read-word tree-of is-ticket is-child is-leaf depth-from depth level meets on-path child-from child own-record is-record is-member
-    owner-domain under place-of is-watch is-idle numbers-at store-numbers fresh-words fresh-state is-kind prep-row row step steps state-after good-tail good-next good-status
-    queue-on-path good-place good-watch good-thread good-counters well-formed refusal accepted lowest-bad first-refusal bad-domains bad-threads bad-parent
-    too-deep no-threshold bad-home empty-domain tree-tests bad-state bad-entry step-tests tree-refusal step-refusal first-kind first-domain step-reply
-    step-answer padded tree two-homes Names last-state state-in answer answer-to fresh-answer
-list-meets = record { names = (λ e. refl, tt); busy = not-idle _ refl }
+unfolding Names
+list-meets = record { names = (λ e. refl, tt); busy = rw after-one-step (not-idle _ started) }
 
 pub witnesses : Witnesses
 witnesses = record { call-meets = call-meets; states = states-reached; thresholds = thresholds-one; list-meets = list-meets }

@@ -7,14 +7,14 @@ use native.Mathlib.Omega.{arith}
 use native.Mathlib.Decide.{ℕ-discrete}
 use lib.Dec.{eqb, leb, leb·zero}
 use lib.ListN.{length, getD, drop}
-use borrow.Author.Tests.{eqb-true, leb-true}
+use borrow.Author.Tests.{eqb-true, leb-true, le-ltb}
 use Rattle.model.specs.declared.PlaceWords.{PlaceWords}
 use Rattle.model.specs.declared.State.{State}
 use Rattle.model.specs.declared.Counters.{Counters}
 use Rattle.model.specs.declared.PlaceArrays.{PlaceArrays}
 use Rattle.model.specs.Scans.{any-below, all-below}
 use Rattle.model.specs.Trees.{Tree}
-use Rattle.model.specs.Places.{place-words, place-of}
+use Rattle.model.specs.Places.{place-words, place-of, is-idle}
 use Rattle.model.specs.States.{tail, numbers-at, Places-room}
 use Rattle.model.specs.WellFormed.{good-tail, next-fits, good-next, status-fits, good-status, watch-fits, good-watch, thread-fits, good-thread, good-counters, well-formed}
 use Rattle.model.specs.Counters.{good-count, good-counts, count-above, any-above}
@@ -157,12 +157,6 @@ tails-same t s =
 abbrev pub thread-walked : Tree → State → (thread : ℕ) → PlaceWords → Bool
 thread-walked t s i q = thread-fits t i (place-of q) (watch-fits t s i (place-of q))
 
--- well-formedness by single passes
-unfoldable pub formed-by-walks : Tree → State → Bool
-formed-by-walks t s =
-    (tails-walked t s && walked (next-fits t) 0 (s .nexts))
-    && (walked (status-fits t) 0 (s .statuses) && (walked (thread-walked t s) 0 (all-numbers (s .places)) && good-counters t s))
-
 places-same : (f : ℕ → PlaceWords → Bool) (q : PlaceArrays) → Places-room q → all-below 256 (λ i. f i (numbers-at q i)) ≡ walked f 0 (all-numbers q)
 unfolding numbers-at
 places-same f q r =
@@ -170,10 +164,47 @@ places-same f q r =
     (λ i h. ap (f i) (sym (zipped-at (q .rows) (q .domains) (q .peers) (q .words) i (omega (arith, r .rows)))))
     ∙ whole f (place-words 0 0 0 0) 256 (all-numbers q) (zipped-length (q .rows) (q .domains) (q .peers) (q .words) ∙ r .rows)
 
+-- UNUSED SLOTS of zeros are Idle, so only the threads' places are tested
+abbrev pub idle-from : (first : ℕ) → PlaceArrays → Bool
+idle-from n q = (zero-from n (q .rows) && zero-from n (q .domains)) && (zero-from n (q .peers) && zero-from n (q .words))
+
+abbrev pub places-walked : Tree → State → Bool
+places-walked t s =
+    cond (idle-from (t .threads) (s .places) && leb (t .threads) 256) (all-below (t .threads) (λ i. thread-walked t s i (numbers-at (s .places) i)))
+    (walked (thread-walked t s) 0 (all-numbers (s .places)))
+
+unused-good : (t : Tree) (s : State) → idle-from (t .threads) (s .places) ≡ true → (i : ℕ) → t .threads ≤ i → thread-walked t s i (numbers-at (s .places) i) ≡ true
+unfolding numbers-at place-of is-idle
+unused-good t s e i h =
+    let q = s .places in
+    let n = t .threads in
+    let a = and-both (zero-from n (q .rows) && zero-from n (q .domains)) (zero-from n (q .peers) && zero-from n (q .words)) e in
+    let b = and-both (zero-from n (q .rows)) (zero-from n (q .domains)) (a .0) in
+    let c = and-both (zero-from n (q .peers)) (zero-from n (q .words)) (a .1) in
+    rw (le-ltb i n h, zero-at n (q .rows) (b .0) i h, zero-at n (q .domains) (b .1) i h, zero-at n (q .peers) (c .0) i h, zero-at n (q .words) (c .1) i h)
+
+threads-same : (t : Tree) (s : State) → Places-room (s .places) → all-below 256 (λ i. thread-walked t s i (numbers-at (s .places) i)) ≡ places-walked t s
+threads-same t s r = by (idle-from (t .threads) (s .places) && leb (t .threads) 256) refl
+  where
+    f : ℕ → Bool
+    f i = thread-walked t s i (numbers-at (s .places) i)
+
+    by : (c : Bool) → idle-from (t .threads) (s .places) && leb (t .threads) 256 ≡ c → all-below 256 f ≡ cond c (all-below (t .threads) f) (walked (thread-walked t s) 0 (all-numbers (s .places)))
+    by true e =
+        let both = and-both (idle-from (t .threads) (s .places)) (leb (t .threads) 256) e in
+        fewer (t .threads) 256 f (leb-true (t .threads) 256 (both .1)) (unused-good t s (both .0))
+    by false e = places-same (thread-walked t s) (s .places) r
+
+-- well-formedness by single passes
+unfoldable pub formed-by-walks : Tree → State → Bool
+formed-by-walks t s =
+    (tails-walked t s && walked (next-fits t) 0 (s .nexts))
+    && (walked (status-fits t) 0 (s .statuses) && (places-walked t s && good-counters t s))
+
 pub same-formed : (t : Tree) (s : State) → Sized s → well-formed t s ≡ formed-by-walks t s
 unfolding well-formed formed-by-walks good-next good-status good-thread good-watch
 same-formed t s h =
-    rw (tails-same t s, whole (next-fits t) 0 320 (s .nexts) (h .nexts), whole (status-fits t) 0 320 (s .statuses) (h .statuses), places-same (thread-walked t s) (s .places) (h .places))
+    rw (tails-same t s, whole (next-fits t) 0 320 (s .nexts) (h .nexts), whole (status-fits t) 0 320 (s .statuses) (h .statuses), threads-same t s (h .places))
 
 -- THE COUNTERS; their slots after the domains of the tree are 0
 abbrev pub zeros-from : (first : ℕ) → Counters → Bool

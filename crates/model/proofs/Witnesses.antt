@@ -1,5 +1,5 @@
 -- The witnesses of `model` hold.
-use mathlib.Core.Path.{_≡_, refl}
+use mathlib.Core.Path.{_≡_, refl, ap, _∙_}
 use mathlib.Core.Bool.{Bool, true, false, _&&_, cond}
 use mathlib.Core.List.{List, [], _∷_}
 use Prim.Native.Nat.{ℕ, _<_}
@@ -9,16 +9,13 @@ use lib.ListN.{getD}
 use borrow.Author.Tests.{ltb-true, eqb-true}
 use Rattle.model.specs.declared.TreeWords.{TreeWords}
 use Rattle.model.specs.Scans.{any-below, all-below, filter-below}
-use Rattle.model.specs.Trees.{Tree, read-word, tree-of, is-ticket, is-child, is-leaf, depth-from, depth, level, meets, on-path, child-from, child, own-record, is-record, is-member, owner-domain, under}
+use Rattle.model.specs.Trees.{Tree, read-word, tree-of, is-ticket, is-child, is-leaf, depth-from, depth, level, meets, on-path, child-from, child, own-record, is-member, under}
 use Rattle.model.specs.Places.{place-of, is-idle, is-watch}
 use Rattle.model.specs.States.{fresh-words, fresh-state, numbers-at, store-numbers}
-use Rattle.model.specs.Steps.{is-kind, is-entry, prep-row, swap-row, link-row, wait-row, leave-row, check-row, help-row, cas-row, linger-row, grant-row, draw-row, watch-row, is-watched, shown-members, raise-row, row, step}
-use Rattle.model.specs.Runs.{steps, state-after, run-of, run, ended-in, entries-under, occurrences}
-use Rattle.model.specs.Tenures.{finds-none, taken-from, given, starts, checks-at, word-to-grant, tenure-length, domain-entries, domain-tenures, longest-tenure}
-use Rattle.model.specs.Counters.{fresh-counters, each-with-index, counters-after, good-count, good-counts, count-above, any-above}
-use Rattle.model.specs.WellFormed.{good-tail, good-next, good-status, queue-on-path, good-place, good-watch, good-thread, good-counters, well-formed}
-use Rattle.model.specs.Refusals.{refusal, accepted, lowest-bad, first-refusal, bad-domains, bad-threads, bad-parent, too-deep, no-threshold, bad-home, empty-domain, tree-tests, bad-state, bad-length, bad-entry, bad-room, bad-counter, step-tests, run-tests, tree-refusal, step-refusal, run-refusal}
-use Rattle.model.specs.Answers.{counters-after-run}
+use Rattle.model.specs.Steps.{is-kind, prep-row, swap-row, link-row, wait-row, leave-row, check-row, help-row, cas-row, linger-row, grant-row, draw-row, watch-row, is-watched, shown-members, raise-row, row, step}
+use Rattle.model.specs.Runs.{steps, state-after, run-of, run}
+use Rattle.model.specs.Counters.{fresh-lock, fresh-counters, good-count}
+use Rattle.model.specs.Refusals.{refusal, accepted, lowest-bad, first-refusal, bad-domains, bad-threads, bad-parent, too-deep, no-threshold, bad-home, empty-domain, tree-tests, bad-length, bad-entry, bad-room, tree-refusal}
 use Rattle.model.specs.Laws.{All-threads, Fresh-run, Form-law}
 use Rattle.model.specs.CounterLaws.{Room-law}
 use Rattle.model.specs.Search.{with-parent, six-levels}
@@ -28,7 +25,9 @@ use Rattle.model.specs.Cases.Claim.{two-homes-again}
 use Rattle.model.specs.Cases.Witnesses.{Meets, crossing, Trees-meet, States-met, counted-before, Counters-met, kinds-of, Kinds-met, Tests-numbered, Unread-met, status-after, Words-met, Domains-met, Own-parent, Witnesses}
 use Rattle.model.proofs.Tests.{and-both}
 use Rattle.model.proofs.Trees.Accepted.{sixteen-bit}
-use Rattle.model.proofs.Laws.Form.{form-law}
+use Rattle.model.proofs.Walks.{zero-from, first-pass, counts-by-walks}
+use Rattle.model.proofs.Computing.{far-below, have-room, walked-counter, counted-refusal, same-counted-step, same-counted-run}
+use Rattle.model.proofs.Laws.Form.{form-law, fresh-well-formed}
 use Rattle.model.proofs.Laws.FromFresh.{left-from-fresh}
 use Rattle.model.proofs.Laws.Counters.{fresh-good, fresh-room, room-law}
 use Rattle.model.proofs.Laws.Refusals.{tree-numbered, run-numbered-before-19}
@@ -75,15 +74,19 @@ states-met =
       not-bad = room-law t (sixteen-bit two-homes) _ (2 ∷ []) (fresh-room 1 (omega arith));
     }
 
+-- the words are fresh, so well formed for every tree, and the counters are tested by single passes
 counters-met : Counters-met
-unfolding occurrences ended-in entries-under finds-none taken-from given starts checks-at word-to-grant tenure-length domain-entries domain-tenures
-    longest-tenure fresh-counters each-with-index counters-after good-count good-counts count-above any-above bad-counter counters-after-run is-entry any-below
-    all-below filter-below read-word tree-of is-ticket is-child is-leaf depth-from depth level meets on-path child-from child own-record is-record is-member
-    owner-domain under place-of is-watch is-idle numbers-at store-numbers fresh-words is-kind prep-row swap-row link-row wait-row leave-row check-row help-row cas-row linger-row grant-row draw-row watch-row is-watched shown-members raise-row row step steps state-after run-of run good-tail good-next good-status
-    queue-on-path good-place good-watch good-thread good-counters well-formed refusal accepted lowest-bad first-refusal bad-domains bad-threads bad-parent
-    too-deep no-threshold bad-home empty-domain tree-tests bad-state bad-length bad-entry bad-room step-tests run-tests tree-refusal step-refusal run-refusal
-    padded tree two-homes counters counted-before
-counters-met = record { of-step = refl; of-step-counted = refl; of-run = refl; of-run-counted = refl }
+unfolding counted-refusal counts-by-walks walked-counter far-below have-room zero-from first-pass fresh-counters good-count any-below all-below filter-below
+    read-word tree-of is-ticket is-child is-leaf depth-from depth level meets on-path is-member under refusal accepted lowest-bad first-refusal bad-domains
+    bad-threads bad-parent too-deep no-threshold bad-home empty-domain tree-tests bad-length bad-entry bad-room padded tree two-homes counters counted-before
+counters-met =
+    let formed = fresh-well-formed (tree-of two-homes) in
+    record {
+      of-step = ap (λ r. r .number) (same-counted-step two-homes fresh-lock true formed 0) ∙ refl;
+      of-step-counted = ap (λ r. r .number) (same-counted-step two-homes counted-before true formed 0) ∙ refl;
+      of-run = ap (λ r. r .number) (same-counted-run two-homes fresh-lock true formed (0 ∷ 1 ∷ []) 2 (omega arith)) ∙ refl;
+      of-run-counted = ap (λ r. r .number) (same-counted-run two-homes counted-before true formed (0 ∷ 1 ∷ []) 2 (omega arith)) ∙ refl;
+    }
 
 kinds-met : Kinds-met
 unfolding any-below filter-below read-word tree-of is-ticket meets on-path child-from child own-record place-of is-watch is-idle numbers-at store-numbers fresh-words fresh-state

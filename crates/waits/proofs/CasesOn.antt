@@ -6,6 +6,7 @@ use Prim.Native.Nat.{ℕ, _-_, _≤_}
 use lib.Dec.{eqb, leb}
 use lib.ListN.{length, replicate}
 use borrow.Author.Tests.{leb-true}
+use Rattle.model.specs.declared.TreeWords.{TreeWords}
 use Rattle.model.specs.declared.LockState.{LockState}
 use Rattle.model.specs.Scans.{any-below, filter-below, all-below}
 use Rattle.model.specs.Trees.{Tree, read-word, tree-of, is-ticket, is-child, is-leaf, depth-from, depth, level, meets, on-path, child-from, child, own-record, is-record, is-member, owner-domain, under}
@@ -32,24 +33,24 @@ use Rattle.model.proofs.Walks.{walked, Sized, zero-from, first-pass, first-meet
 use Rattle.model.proofs.Computing.{far-below, have-room, walked-counter, tests-by, late-tests, same-late, same-lock-formed, state-sized, sized}
 
 -- what refuses a run with waits that continues, given whether its state is well formed; 19 is left out if no counter can exceed its limit
-abbrev refused-going-on : Tree → (formed : Bool) → LockState → (schedule : List ℕ) → (room row-room : ℕ) → (under-way : List ℕ) → Refusal
+abbrev pub refused-going-on : Tree → (formed : Bool) → LockState → (schedule : List ℕ) → (room row-room : ℕ) → (under-way : List ℕ) → Refusal
 refused-going-on t b s is room n us =
     first-refusal (((tests-by t b (schedule-tests t is ++ room-tests is room) ++ row-room-tests t n) ++ under-way-tests t us) ++ late-tests t s is)
 
-unfoldable walked-refusal : On-case → Refusal
-walked-refusal c =
-    let t = tree-of (c .words) in
-    let s = c .state in
-    refused-going-on t (formed-by-walks t (s .words) && counts-by-walks t (s .counters)) s (c .schedule) (length (c .trace)) (length (c .rows)) (c .under-way)
+unfoldable pub walked-refused : TreeWords → LockState → (schedule trace rows under-way : List ℕ) → Refusal
+walked-refused w s is b rs us =
+    let t = tree-of w in
+    refused-going-on t (formed-by-walks t (s .words) && counts-by-walks t (s .counters)) s is (length b) (length rs) us
 
-same-refusal : (c : On-case) → length (c .schedule) ≤ 65536 → Sized (c .state .words) → refused-on (c .words) (c .state) (c .schedule) (c .trace) (c .rows) (c .under-way) ≡ walked-refusal c
-unfolding walked-refusal refused-on waits-on-refusal waits-on-tests bad-state
-same-refusal c short h =
-    let t = tree-of (c .words) in
-    let s = c .state in
-    same-late (c .words) s (c .schedule) (waits-on-tests-before-19 t s (c .schedule) (length (c .trace)) (length (c .rows)) (c .under-way)) short
-    ∙ ap (λ b. refused-going-on t b s (c .schedule) (length (c .trace)) (length (c .rows)) (c .under-way))
-    (same-lock-formed (c .words) s (formed-by-walks t (s .words)) (same-formed t (s .words) h))
+pub same-refused : (w : TreeWords) (s : LockState) (is b rs us : List ℕ) → length is ≤ 65536 → Sized (s .words) → refused-on w s is b rs us ≡ walked-refused w s is b rs us
+unfolding walked-refused refused-on waits-on-refusal waits-on-tests bad-state
+same-refused w s is b rs us short h =
+    let t = tree-of w in
+    same-late w s is (waits-on-tests-before-19 t s is (length b) (length rs) us) short
+    ∙ ap (λ f. refused-going-on t f s is (length b) (length rs) us) (same-lock-formed w s (formed-by-walks t (s .words)) (same-formed t (s .words) h))
+
+abbrev walked-refusal : On-case → Refusal
+walked-refusal c = walked-refused (c .words) (c .state) (c .schedule) (c .trace) (c .rows) (c .under-way)
 
 unfoldable holds-by-walks : On-case → Bool
 holds-by-walks c =
@@ -77,7 +78,7 @@ same-case : (c : On-case) → case-sized c ≡ true → holds c ≡ holds-by-wal
 unfolding holds-by-walks holds waits-on-answer waits-on-trace waits-on-rows waits-on-under-way
 same-case c e =
     let a = and-both (leb (length (c .schedule)) 65536) (state-sized (c .state .words)) e in
-    rw (same-refusal c (leb-true _ _ (a .0)) (sized (c .state .words) (a .1)))
+    rw (same-refused (c .words) (c .state) (c .schedule) (c .trace) (c .rows) (c .under-way) (leb-true _ _ (a .0)) (sized (c .state .words) (a .1)))
 
 same-cases : (cs : List On-case) → all-sized cs ≡ true → all-hold cs ≡ all-hold-by-walks cs
 unfolding all-hold all-hold-by-walks all-sized
@@ -107,7 +108,7 @@ unfolding zero-from first-pass first-meets counts-by-walks above-by-walks walked
     bad-home empty-domain tree-tests bad-length bad-entry bad-room run-reply run-buffer padded tree at-ticket-root two-homes first-entries two-in-root
     three-levels same-numbers same-places same-counts same-state same-counters same-lock total row-buffer swaps-at draws begins-from begins enters begun
     counted under-way-after finished finished-by waits-from under-way-from waits-below-from under-way-below largest divisor-in mean row-with row-of rows-below-from capped row-of-all all-rows-from bad-row-room bad-under-way waits-reply all-numbers goes-on
-    refused-from full-entries reached no-attempt no-wait four-in-root three-wait all-enter on-cases walked zipped formed-by-walks walked-refusal holds-by-walks all-hold-by-walks
+    refused-from full-entries reached no-attempt no-wait four-in-root three-wait all-enter on-cases walked zipped formed-by-walks walked-refused holds-by-walks all-hold-by-walks
 on-cases-hold = same-cases on-cases cases-sized ∙ refl
 
 pub every-part : Every-part

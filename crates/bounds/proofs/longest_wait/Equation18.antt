@@ -40,6 +40,16 @@ summed a (suc b) (suc c) h q u v w p r s e f g =
     let zc : suc c - 1 ≡ c = omega arith in
     rw (zb, zc) (omega arith)
 
+-- steps of the sum that need few facts
+one-less : (b : ℕ) → suc b - 1 ≡ b
+one-less b = omega arith
+
+rest-added : (m n : ℕ) → m ≤ n → n ≡ m + (n - m)
+rest-added m n h = omega arith
+
+less-one : (u s x y z : ℕ) → u ≡ s → s + 1 ≡ x + y + z → 1 ≤ x → u ≡ (x - 1) + y + z
+less-one u s x y z e f h = omega arith
+
 equation-holds : (a b c h k W : ℕ) → 1 ≤ a → 1 ≤ b → 1 ≤ c → a ≤ h → b ≤ k → W ≡ (a - 1) + (b - 1) * h + (c - 1) * (k * h) → W ≡ equation-18 a b c h k
 unfolding equation-18
 equation-holds a zero c h k W p q r l m e = absurd (omega arith)
@@ -47,13 +57,9 @@ equation-holds a (suc b) zero h k W p q r l m e = absurd (omega arith)
 equation-holds a (suc b) (suc c) h k W p q r l m e =
     let d = h * k - a * suc b in
     let x = h - a in
-    let wide = mul-le-mul l m in
-    let sum = sums-same a b c h k d x p (omega arith) (omega arith) in
-    let all : 1 ≤ a * suc b * suc c = one-le-mul (one-le-mul p q) r in
-    let zb : suc b - 1 ≡ b = omega arith in
-    let zc : suc c - 1 ≡ c = omega arith in
-    let e′ : W ≡ (a - 1) + b * h + c * (k * h) = rw (zb, zc) at e in
-    rw (zb, zc) (omega arith)
+    let sum = sums-same a b c h k d x p (rest-added (a * suc b) (h * k) (mul-le-mul l m)) (rest-added a h l) in
+    let e′ : W ≡ (a - 1) + b * h + c * (k * h) = rw (one-less b, one-less c) at e in
+    rw (one-less b, one-less c) (less-one W ((a - 1) + b * h + c * (k * h)) (a * suc b * suc c) (d * c) (x * b) e′ sum (one-le-mul (one-le-mul p q) r))
 
 module _ (t : Tree) (ok : tree-refusal t .number ≡ 0) (equal : Equal-levels t) (i : ℕ) (hi : i < t .threads) (three : height t i ≡ 2) where
   valid : Accepted t

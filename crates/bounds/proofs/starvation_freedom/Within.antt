@@ -18,6 +18,10 @@ pub occurrences-other : (i x : ℕ) (xs : List ℕ) → x ≢ i → occurrences 
 unfolding occurrences
 occurrences-other i x xs n = let z = ne-eqb i x (λ e. n (sym e)) in rw z (omega arith)
 
+none-occurs : (i : ℕ) → 1 ≤ occurrences i [] → ⊥
+unfolding occurrences
+none-occurs i o = omega arith
+
 pub threads-left : (t : Tree) (xs ys : List ℕ) → All-threads t (xs ++ ys) → All-threads t xs
 unfolding All-threads
 threads-left t [] ys a = tt
@@ -109,17 +113,25 @@ module _ (t : Tree) (valid : Accepted t) (bits : Sixteen-bit t) where
   module _ (a : ℕ) (ha : a < t .threads) (P Q : Situation t → Type 0)
       (others : (c : Situation t) (x : ℕ) (h : x < t .threads) → x ≢ a → P c → P (next t valid bits c x h) ⊎ Q (next t valid bits c x h))
       (own : (c : Situation t) (h : a < t .threads) → P c → Q (next t valid bits c a h)) where
+    own-step : (x : ℕ) (S : List ℕ) (c : Situation t) → x ≡ a → x < t .threads → P c → Reaches Q (x ∷ S) c
+    own-step x S c z h p = let h′ : a < t .threads = rw z at h in rw z (later a h′ (now (own c h′ p)))
+
+    other-step :
+        (x : ℕ) (S : List ℕ) (c : Situation t) (h : x < t .threads) → x ≢ a → P c → (P (next t valid bits c x h) → Reaches Q S (next t valid bits c x h)) →
+        Reaches Q (x ∷ S) c
+    other-step x S c h z p go =
+        elim (others c x h z p) [
+          | inl p′ ↦ later x h (go p′)
+          | inr q ↦ later x h (now q)
+        ]
+
     walk : (S S′ : List ℕ) (c : Situation t) → 1 ≤ occurrences a S → All-threads t (S ++ S′) → P c → Reaches Q (S ++ S′) c
-    unfolding All-threads occurrences
-    walk [] S′ c o all p = absurd (omega arith)
+    unfolding All-threads
+    walk [] S′ c o all p = absurd (none-occurs a o)
     walk (x ∷ S) S′ c o all p =
-        same-or x a _
-        (λ z. let h : a < t .threads = rw z at (all .0) in rw z (later a h (now (own c h p))))
-        (λ z. let o′ : 1 ≤ occurrences a S = rw (occurrences-other a x S z) at o in
-        elim (others c x (all .0) z p) [
-          | inl p′ ↦ later x (all .0) (walk S S′ (next t valid bits c x (all .0)) o′ (all .1) p′)
-          | inr q ↦ later x (all .0) (now q)
-        ])
+        same-or x a _ (λ z. own-step x (S ++ S′) c z (all .0) p)
+        (λ z. other-step x (S ++ S′) c (all .0) z p
+        (λ p′. walk S S′ (next t valid bits c x (all .0)) (rw (occurrences-other a x S z) at o) (all .1) p′))
 
     pub one-round : {c : Situation t} → P c → Within 1 Q c
     unfolding Covers

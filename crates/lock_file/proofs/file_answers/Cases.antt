@@ -12,11 +12,11 @@ use Rattle.model.specs.Answers.{run-reply}
 use Rattle.model.specs.Cases.Marked.{same-numbers}
 use Rattle.lock_file.specs.Reading.{reached-refusal, field-end, entry-end, domain-size, domain-end, parent-at, threshold-at, stored, domains-from, domains-read, thread-end, home-at, threads-from, threads-after, threads-read, thread-count, schedule-start, tree-read, entries-from, entries-at, reading-of, file-read}
 use Rattle.lock_file.specs.PrintedListing.Listing.{digits, numeral, number-then, trace-lines, spaced, first-line, listing}
-use Rattle.lock_file.specs.FileAnswers.FileAnswers.{listing-outcome, run-outcome, file-trace, file-outcome, outcome-reply, outcome-output, file-answer, output-answer}
+use Rattle.lock_file.specs.FileAnswers.FileAnswers.{listing-outcome, run-outcome, file-trace, outcome-reply, outcome-output, file-answer, output-answer}
 use Rattle.lock_file.specs.Cases.FileAnswers.{cases, parts, Every-part}
 use Rattle.lock_file.specs.FileAnswers.FileLaws.{possible-numbers}
 use Rattle.lock_file.specs.Cases.FileAnswersWitnesses.{numbered-files, Numbers-occur}
-use Rattle.lock_file.proofs.file_answers.Computing.{quick-refusal, quick-run, quick-reading, same-reading}
+use Rattle.lock_file.proofs.file_answers.Computing.{quick-refusal, quick-run, quick-reading, quick-outcome, same-outcome}
 
 pub cases-hold : all cases ≡ true
 unfolding same-numbers any-below filter-below read-word tree-of is-ticket is-child is-leaf depth-from depth level meets on-path child-from child own-record
@@ -25,9 +25,9 @@ unfolding same-numbers any-below filter-below read-word tree-of is-ticket is-chi
     refusal accepted lowest-bad first-refusal bad-domains bad-threads bad-parent too-deep no-threshold bad-home empty-domain tree-tests bad-length
     bad-entry bad-room run-reply reached-refusal field-end entry-end domain-size domain-end parent-at threshold-at stored domains-from domains-read
     thread-end home-at threads-from threads-after threads-read thread-count schedule-start tree-read entries-from entries-at reading-of file-read digits
-    numeral number-then trace-lines spaced first-line listing listing-outcome run-outcome file-trace quick-refusal quick-run quick-reading file-outcome
+    numeral number-then trace-lines spaced first-line listing listing-outcome run-outcome file-trace quick-refusal quick-run quick-reading quick-outcome
     outcome-reply outcome-output file-answer output-answer cases
-cases-hold = rw same-reading refl
+cases-hold = rw same-outcome refl
 
 -- each number is the answer for its file
 pub numbers-occur : Numbers-occur
@@ -37,9 +37,9 @@ unfolding same-numbers any-below filter-below read-word tree-of is-ticket is-chi
     refusal accepted lowest-bad first-refusal bad-domains bad-threads bad-parent too-deep no-threshold bad-home empty-domain tree-tests bad-length
     bad-entry bad-room run-reply reached-refusal field-end entry-end domain-size domain-end parent-at threshold-at stored domains-from domains-read
     thread-end home-at threads-from threads-after threads-read thread-count schedule-start tree-read entries-from entries-at reading-of file-read digits
-    numeral number-then trace-lines spaced first-line listing listing-outcome run-outcome file-trace quick-refusal quick-run quick-reading file-outcome
+    numeral number-then trace-lines spaced first-line listing listing-outcome run-outcome file-trace quick-refusal quick-run quick-reading quick-outcome
     outcome-reply outcome-output file-answer output-answer Numbers-occur numbered-files possible-numbers
-numbers-occur = rw same-reading refl
+numbers-occur = rw same-outcome refl
 
 pub every-part : Every-part
 unfolding parts Every-part

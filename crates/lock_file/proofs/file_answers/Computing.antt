@@ -14,7 +14,7 @@ use Rattle.model.specs.States.{fresh-words}
 use Rattle.model.specs.Counters.{fresh-lock}
 use Rattle.model.specs.CounterLaws.{Room-law}
 use Rattle.model.specs.Runs.{run}
-use Rattle.model.specs.Refusals.{Refusal, Test, test, lowest-bad, first-refusal, bad-state, bad-counter, tree-tests, schedule-tests, room-tests, run-tests-before-19, run-tests, run-refusal}
+use Rattle.model.specs.Refusals.{Refusal, refusal, Test, test, lowest-bad, first-refusal, bad-state, bad-counter, tree-tests, schedule-tests, room-tests, run-tests-before-19, run-tests, run-refusal}
 use Rattle.model.specs.Answers.{counters-after-run, run-reply, run-answer}
 use Rattle.model.specs.Laws.{Sixteen-bit}
 use Rattle.model.proofs.Refusing.{test-skipped}
@@ -22,8 +22,8 @@ use Rattle.model.proofs.Trees.Accepted.{sixteen-bit}
 use Rattle.model.proofs.Laws.Counters.{fresh-good, fresh-room, room-law}
 use Rattle.model.proofs.Laws.Form.{fresh-well-formed}
 use Rattle.model.proofs.Computing.{last-passes}
-use Rattle.lock_file.specs.Reading.{Reading, refused, described}
-use Rattle.lock_file.specs.FileAnswers.FileAnswers.{Outcome, refused-by, run-outcome, file-run, file-trace, reading-outcome}
+use Rattle.lock_file.specs.Reading.{Reading, refused, described, file-read}
+use Rattle.lock_file.specs.FileAnswers.FileAnswers.{Outcome, refused-by, run-outcome, file-run, file-trace, reading-outcome, file-outcome}
 
 -- a test that passes changes no answer, also if others follow
 passes-between :
@@ -78,6 +78,11 @@ unfolding reading-outcome quick-reading
 same-for (refused r) room = refl
 same-for (described w is) room = ap (λ r. run-outcome r (file-trace w is) room) (same-run w is)
 
--- the same for every reading at once, so that a list of cases is rewritten as a whole
-pub same-reading : reading-outcome ≡ quick-reading
-same-reading = fun-ext (λ x. fun-ext (λ room. same-for x room))
+-- the outcome of the file call, with such a reading
+unfoldable pub quick-outcome : (bytes : List ℕ) → (room : ℕ) → Outcome
+quick-outcome bs room = let read = quick-reading (file-read bs) room in cond (ltb 65536 (length bs)) (refused-by (refusal 1 0)) read
+
+-- the same for every file at once, so that a list of cases is rewritten as a whole, before any file is read
+pub same-outcome : file-outcome ≡ quick-outcome
+unfolding file-outcome quick-outcome
+same-outcome = fun-ext (λ bs. fun-ext (λ room. ap (λ x. cond (ltb 65536 (length bs)) (refused-by (refusal 1 0)) x) (same-for (file-read bs) room)))
