@@ -135,7 +135,7 @@ pub(crate) fn run_tested(
     }
 }
 
-// The state of a lock, from its arrays. The last row and the first counter are read only for the compiler: it splits a struct around a number that is read on its own, and then copies fewer bytes, since the arrays are not copied whole from one struct to the next; tests/bench counts them.
+// The state of a lock, from its arrays. The last tail, the last row and the last number of entries are read only for the compiler: it splits a struct around a number that is read on its own, and then copies fewer bytes, since the arrays are not copied whole from one struct to the next; tests/bench counts them.
 pub(crate) fn lock_of<'s>(
     tails: &'s [u16; 64],
     nexts: &'s [u16; 320],
@@ -168,12 +168,13 @@ pub(crate) fn lock_of<'s>(
         ticket,
         grant,
     };
+    let _last_tail = after.tails[63];
     let counters = Counters {
         entries: *entries,
         tenures: *tenures,
         longest: *longest,
     };
-    let _first_entries = counters.entries[0];
+    let _last_entries = counters.entries[63];
     LockState {
         words: after,
         counters,

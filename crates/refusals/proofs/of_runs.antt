@@ -5,6 +5,7 @@ pub mod RowShapes
 pub mod PlaceTests
 pub mod Resting
 pub mod Folds
+pub mod Marking
 pub mod Formed
 pub mod Counts
 pub mod StateTests

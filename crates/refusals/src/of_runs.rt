@@ -8,6 +8,7 @@ ghost use Rattle.refusals.specs.Arrays.{refusal-words, lent-state};
 ghost use Rattle.refusals.specs.OfRuns.Counts.{counters-in};
 
 mod counters;
+mod marks;
 mod owners;
 pub mod places;
 mod shapes;

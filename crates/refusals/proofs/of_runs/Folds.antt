@@ -16,7 +16,7 @@ use Rattle.model.specs.States.{numbers-at}
 use Rattle.model.proofs.Tests.{and-both, all-each, all-true}
 use Rattle.refusals.specs.OfRuns.Tables.{record-in, idle-in, zeros-between, places-clear, records-clear, clear-in}
 
-or-zero : (a b : ℕ) → eqb (bitOr a b) 0 ≡ eqb a 0 && eqb b 0
+pub or-zero : (a b : ℕ) → eqb (bitOr a b) 0 ≡ eqb a 0 && eqb b 0
 or-zero a b =
     let sum = or-add-and a b in
     let left = and-le-l a b in

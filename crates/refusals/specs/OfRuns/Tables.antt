@@ -1,6 +1,6 @@
 -- The tests of a state with a table of the records' owners. proofs/ shows that they agree with the model's.
 use mathlib.Core.Path.{_≡_}
-use mathlib.Core.Bool.{Bool, false, _&&_, _||_, not, cond}
+use mathlib.Core.Bool.{Bool, true, false, _&&_, _||_, not, cond}
 use mathlib.Core.List.{List}
 use Prim.Native.Nat.{ℕ, _+_, _-_, _<_}
 use lib.Dec.{eqb, ltb, leb}
@@ -9,6 +9,7 @@ use Rattle.model.specs.declared.PlaceArrays.{PlaceArrays}
 use Rattle.model.specs.declared.PlaceWords.{PlaceWords}
 use Rattle.model.specs.declared.State.{State}
 use Rattle.model.specs.Scans.{all-below}
+use Rattle.model.specs.States.{numbers-at}
 use Rattle.model.specs.Places.{has-domain, has-peer, has-word}
 use Rattle.model.specs.Trees.{Tree, meets, is-record, owner-domain}
 use Rattle.refusals.specs.Paths.Records.{own-record-in}
@@ -87,9 +88,18 @@ root-in k b v g = cond (eqb k 0) (eqb v 0 && eqb g 0) (eqb b 0)
 abbrev pub idle-in : PlaceWords → Bool
 idle-in q = eqb (q .row) 0 && (eqb (q .domain) 0 && (eqb (q .peer) 0 && eqb (q .word) 0))
 
+-- the row and the domain of a place are those of Idle, or this row and this domain
+abbrev pub row-rests-in : (resting home row domain : ℕ) → Bool
+row-rests-in w h r l = (eqb r 0 && eqb l 0) || (eqb r w && eqb l h)
+
 -- the place is this row at this domain, without record and word, or it is Idle
-abbrev pub rests-in : (row domain : ℕ) → PlaceWords → Bool
-rests-in r h q = eqb (q .word) 0 && (eqb (q .peer) 0 && cond (eqb (q .row) r) (eqb (q .domain) h) (eqb (q .row) 0 && eqb (q .domain) 0))
+abbrev pub rests-in : (resting home : ℕ) → PlaceWords → Bool
+rests-in w h q = eqb (q .word) 0 && (eqb (q .peer) 0 && row-rests-in w h (q .row) (q .domain))
+
+-- a mark for each thread below a number: 0 only if the thread rests
+pub record Rest-marks (threads resting : ℕ) (owners : List ℕ) (places : PlaceArrays) (marks : List ℕ) : Type 0 where
+  pub room : length marks ≡ 256
+  pub rests : (k : ℕ) → k < threads → getD marks k 0 ≡ 0 → rests-in resting (getD owners k 0) (numbers-at places k) ≡ true
 
 -- the row of threads that rest: Wait, or Idle if their home is a ticket root, which is then the only domain
 abbrev pub resting-row : (kind domains : ℕ) → ℕ

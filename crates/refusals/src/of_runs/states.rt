@@ -1,13 +1,14 @@
 // The tests of the homes and of a given state, in a tree that 4 to 8 do not refuse.
 ghost use mathlib.Core.Path.{_≡_};
-ghost use mathlib.Core.Bool.{_&&_};
+ghost use mathlib.Core.Bool.{true, _&&_};
 ghost use Prim.Native.Nat.{_+_, _<_, _≤_};
 ghost use lib.ListN.{getD};
 ghost use Rattle.model.specs.Scans.{all-below};
 ghost use Rattle.model.specs.Trees.{meets};
 ghost use Rattle.model.specs.States.{numbers-at};
 ghost use Rattle.refusals.specs.Arrays.{parents-in, places-in, Lower};
-ghost use Rattle.refusals.specs.OfRuns.Tables.{member-in, next-in, tail-and-next-in, peer-in, barred-in, domain-in, ticket-place-in, place-in, root-in, rests-in, resting-row, Rest, Homes-there, used-in};
+ghost use Rattle.refusals.specs.OfRuns.Tables.{member-in, next-in, tail-and-next-in, peer-in, barred-in, domain-in, ticket-place-in, place-in, root-in, resting-row, Homes-there, used-in};
+use crate::of_runs::marks;
 use crate::of_runs::places;
 use crate::of_runs::shapes;
 use model::PlaceWords;
@@ -235,52 +236,39 @@ pub(crate) fn resting_row_of(ticket_root: u32, domains: u32) -> u8
     4
 }
 
-// Wait at home, the place of most threads under contention, or Idle: these places need no further test.
-fn rests_at(row: u8, home: u8, q: PlaceWords) -> bool
-    ensures { λ r. ⌜ r ≡ rests-in row home q ⌝ }
-{
-    if q.word != 0 {
-        return false;
-    }
-    if q.peer != 0 {
-        return false;
-    }
-    if q.row == row {
-        return q.domain == home;
-    }
-    if q.row != 0 {
-        return false;
-    }
-    q.domain == 0
-}
-
-// The words of a thread: its record and its place.
-fn good_thread_at(
+// The words of a thread: the next of its record, and its place if it is marked.
+fn good_thread_at<'s>(
     parents: &[u8; 64],
     owners: &[u8; 320],
-    statuses: &[u64; 320],
-    domains: u32,
+    marks: &[u8; 256],
+    nexts: &'s [u16; 320],
+    statuses: &'s [u64; 320],
+    rows: &'s [u8; 256],
+    domains: &'s [u8; 256],
+    peers: &'s [u16; 256],
+    words: &'s [u64; 256],
+    count: u32,
     ticket_root: u32,
     i: u16,
-    q: PlaceWords,
-    next: u16,
-    resting: u8,
 ) -> bool
-    requires { ⌜ (domains ≤ 64) × (i < 256) ⌝ }
-    requires { ⌜ Lower domains (now parents) ⌝ }
-    requires { ⌜ getD (now owners) i 0 < domains ⌝ }
-    requires { ⌜ Rest «ticket_root» (getD (now owners) i 0) resting ⌝ }
-    ensures { λ r. ⌜ r ≡ used-in «ticket_root» (parents-in domains (now (parents .entry))) (now (owners .entry)) (now (statuses .entry)) i q next ⌝ }
+    requires { ⌜ (count ≤ 64) × (i < 256) ⌝ }
+    requires { ⌜ Lower count (now parents) ⌝ }
+    requires { ⌜ getD (now owners) i 0 < count ⌝ }
+    requires { ⌜ (let q = numbers-at (places-in (now rows) (now domains) (now peers) (now words)) i in
+        getD (now marks) i 0 ≡ 0 → place-in «ticket_root» (parents-in count (now parents)) (now owners) (now statuses) i (getD (now owners) i 0) q ≡ true) ⌝ }
+    ensures { λ r. ⌜ (let q = numbers-at (places-in (now (rows .entry)) (now (domains .entry)) (now (peers .entry)) (now (words .entry))) i in
+        r ≡ used-in «ticket_root» (parents-in count (now (parents .entry))) (now (owners .entry)) (now (statuses .entry)) i q (getD (now (nexts .entry)) i 0)) ⌝ }
 {
     let at = i as usize;
     let home = owners[at];
-    if !good_next_at(owners, home, next) {
+    if !good_next_at(owners, home, nexts[at]) {
         return false;
     }
-    if rests_at(resting, home, q) {
+    if marks[at] == 0 {
         return true;
     }
-    good_place_at(parents, owners, statuses, domains, ticket_root, i, home, q)
+    let q = places::place_at(rows, domains, peers, words, at);
+    good_place_at(parents, owners, statuses, count, ticket_root, i, home, q)
 }
 
 // The words of each thread.
@@ -305,21 +293,32 @@ pub(crate) fn good_threads<'s>(
         q ≡ all-below threads (λ i. used-in «ticket_root» t (now (owners .entry)) (now (statuses .entry)) i (numbers-at places i) (getD (now (nexts .entry)) i 0))) ⌝ }
 {
     let row = resting_row_of(ticket_root, count);
+    let mut marks = [0u8; 256];
+    marks::mark_threads(
+        &mut marks,
+        owners,
+        threads,
+        row,
+        rows,
+        domains,
+        peers,
+        words,
+    );
     let mut i: u16 = 0;
     while (i as u32) < threads {
-        let at = i as usize;
-        let q = places::place_at(rows, domains, peers, words, at);
-        let next = nexts[at];
         if !good_thread_at(
             parents,
             owners,
+            &marks,
+            nexts,
             statuses,
+            rows,
+            domains,
+            peers,
+            words,
             count,
             ticket_root,
             i,
-            q,
-            next,
-            row,
         ) {
             return false;
         }

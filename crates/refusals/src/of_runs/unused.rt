@@ -20,7 +20,7 @@ fn any_byte(values: &[u8], from: usize, to: usize) -> u8
     all
 }
 
-fn any_half(values: &[u16], from: usize, to: usize) -> u16
+pub(crate) fn any_half(values: &[u16], from: usize, to: usize) -> u16
     requires { ⌜ (from ≤ to) × (to ≤ length (now values)) ⌝ }
     ensures { λ r. ⌜ eqb r 0 ≡ zeros-between from to (now (values .entry)) ⌝ }
 {
@@ -33,7 +33,7 @@ fn any_half(values: &[u16], from: usize, to: usize) -> u16
     all
 }
 
-fn any_word(values: &[u64], from: usize, to: usize) -> u64
+pub(crate) fn any_word(values: &[u64], from: usize, to: usize) -> u64
     requires { ⌜ (from ≤ to) × (to ≤ length (now values)) ⌝ }
     ensures { λ r. ⌜ eqb r 0 ≡ zeros-between from to (now (values .entry)) ⌝ }
 {
