@@ -1,3 +1,3 @@
 -- What one step stores and counts, given the words that it reads.
-pub mod Taking
+pub mod OneStep
 pub mod Counting

@@ -2,7 +2,7 @@
 ghost use lib.ListN.{getD};
 ghost use Rattle.rows.specs.Common.Counting.{parent-in, Room-above, Entered, Shown-for};
 ghost use Rattle.rows.specs.Step.Counting.{Counted-step, Shown-left};
-ghost use Rattle.rows.specs.Step.Taking.{tree-at, Ready, Taken};
+ghost use Rattle.rows.specs.Step.OneStep.{tree-at, Ready, Step-done};
 use crate::common::counting;
 use crate::common::places;
 use crate::common::rows;
@@ -35,7 +35,7 @@ pub fn take<'t>(
     requires { ⌜ Room-above (now entries) × Room-above (now tenures) ⌝ }
     requires { ⌜ Shown-for looked domains (now shown) ⌝ }
     ensures { λ r. ⌜ (let t = tree-at «ticket_root» domains threads (now (parents .entry)) (now (thresholds .entry)) (now (homes .entry)) in
-        Taken t i place (now (tails .entry)) (now (tails .exit)) (now (nexts .entry)) (now (nexts .exit)) (now (statuses .entry)) (now (statuses .exit)) (now (ticket .entry)) (now (ticket .exit)) (now (granted .entry)) (now (granted .exit)) r) ⌝ }
+        Step-done t i place (now (tails .entry)) (now (tails .exit)) (now (nexts .entry)) (now (nexts .exit)) (now (statuses .entry)) (now (statuses .exit)) (now (ticket .entry)) (now (ticket .exit)) (now (granted .entry)) (now (granted .exit)) r) ⌝ }
     ensures { λ r. ⌜ Entered (parent-in domains (now (parents .entry))) (r .kind) (getD (now (homes .entry)) i 0) (now (entries .entry)) (now (entries .exit)) ⌝ }
     ensures { λ r. ⌜ Counted-step domains (now (parents .entry)) (getD (now (homes .entry)) i 0) place (r .place) (r .kind) (now (shown .entry)) (now (tenures .entry)) (now (tenures .exit)) (now (longest .entry)) (now (longest .exit)) ⌝ }
     ensures { λ r. ⌜ Shown-left place (now (shown .entry)) (now (shown .exit)) ⌝ }

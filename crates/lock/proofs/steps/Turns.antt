@@ -9,7 +9,7 @@ use Rattle.model.specs.Laws.{Formed}
 use Rattle.model.specs.States.{numbers-at}
 use Rattle.model.proofs.Laws.Facts.{well-formed-facts}
 use Rattle.model.proofs.Laws.Calls.{Good-run}
-use Rattle.rows.specs.Step.Taking.{Ready}
+use Rattle.rows.specs.Step.OneStep.{Ready}
 use Rattle.lock.proofs.steps.SoFar.{thread-at, below}
 
 -- an entry of an accepted schedule

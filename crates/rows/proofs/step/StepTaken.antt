@@ -35,7 +35,7 @@ use Rattle.rows.specs.Step.Counting.{started-in, Shown-left, Counted-ste
 use Rattle.rows.specs.Common.Rows.{Done, Stands, Above}
 use Rattle.rows.specs.Acquire.Rows.{start-row}
 use Rattle.rows.specs.Common.Standing.{Member-of, row-domain}
-use Rattle.rows.specs.Step.Taking.{tree-at, state-in, Ready, Taken}
+use Rattle.rows.specs.Step.OneStep.{tree-at, state-in, Ready, Step-done}
 use Rattle.rows.proofs.step.StepCounted.{other-counted}
 use Rattle.rows.proofs.common.RowPlaces.{place-by-row}
 
@@ -239,7 +239,7 @@ module _ {k n m : ℕ} {ps ts hs : List ℕ} {i : ℕ} {q : PlaceWords} (turn : 
         pub taken :
             (x : Place) (said : Moved) (ts ts′ ns ns′ vs vs′ : List ℕ) (v v′ g g′ : ℕ) → p ≡ x →
             ((qs : PlaceArrays) → numbers-at qs i ≡ q → Done (row-at t i (w .domain) x (state-in ts ns vs v g qs)) i said (state-in ts′ ns′ vs′ v′ g′ qs)) →
-            Taken t i q ts ts′ ns ns′ vs vs′ v v′ g g′ said
+            Step-done t i q ts ts′ ns ns′ vs vs′ v v′ g g′ said
         taken x said ts ts′ ns ns′ vs vs′ v v′ g g′ e f =
             record {
               does = λ qs here.

@@ -5,7 +5,7 @@ use native.Mathlib.Omega.{arith}
 use lib.Dec.{eqb}
 use denote.Ref.{now}
 use Rattle.model.specs.declared.PlaceWords.{PlaceWords}
-use Rattle.rows.specs.Step.Taking.{state-in}
+use Rattle.rows.specs.Step.OneStep.{state-in}
 use Rattle.model.specs.declared.Place.the-variants.{Idle, Prep, Swap, Link, Wait, Inside, Check, Help, Cas, Linger, Grant, Draw, Watch, Raise}
 use Rattle.rows.specs.Common.Counting.{taken-in}
 use Rattle.rows.specs.Step.Counting.{started-in}

@@ -30,5 +30,5 @@ pub record Ready (t : Tree) (i : ℕ) (q : PlaceWords) : Type 0 where
   pub place : good-place t i (place-of q) ≡ true
 
 -- the row of a place is done, whatever the places of the other threads are
-pub record Taken (t : Tree) (i : ℕ) (q : PlaceWords) (tails tails-left nexts nexts-left statuses statuses-left : List ℕ) (ticket ticket-left grant grant-left : ℕ) (m : Moved) : Type 0 where
+pub record Step-done (t : Tree) (i : ℕ) (q : PlaceWords) (tails tails-left nexts nexts-left statuses statuses-left : List ℕ) (ticket ticket-left grant grant-left : ℕ) (m : Moved) : Type 0 where
   pub does : (ps : PlaceArrays) → numbers-at ps i ≡ q → Done (row t i (place-of q) (state-in tails nexts statuses ticket grant ps)) i m (state-in tails-left nexts-left statuses-left ticket-left grant-left ps)
