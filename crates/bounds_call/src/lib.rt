@@ -1,4 +1,6 @@
 // The allowances of a tree's domains, and the rounds in which every thread enters.
+#![tactic(auto)]
+
 ghost use Rattle.std.specs.Prelude.{◌≡◌, cond, ◌+◌, ◌-◌, ◌*◌, ◌<◌, ◌≤◌, ltb, get_or};
 ghost use Rattle.model.specs.Trees.{tree_of, level};
 ghost use Rattle.model.specs.Refusals.{tree_refusal};

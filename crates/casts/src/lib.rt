@@ -1,4 +1,6 @@
 // Casts of numbers to other types, one function each: its contract states the value, so that callers need not prove it.
+#![tactic(auto)]
+
 ghost use Rattle.std.specs.Prelude.{◌≡◌, ◌<◌, ◌≤◌};
 
 pub fn byte_number(x: u8) -> u32

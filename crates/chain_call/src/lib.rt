@@ -1,4 +1,6 @@
 // Why a thread waits: the chain of threads that it waits for, starting with itself.
+#![tactic(auto)]
+
 ghost use Rattle.std.specs.Prelude.{◌≡◌, ◌++◌, ◌≤◌, length, take, drop};
 ghost use Rattle.model.specs.Refusals.{refusal};
 ghost use Rattle.chain.specs.Answers.{chain_answer, buffer_answer};

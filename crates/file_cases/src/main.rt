@@ -1,4 +1,6 @@
 // Lock files of the ladder and of each refusal: number, place and the length of the listing, one line each.
+#![tactic(auto)]
+
 fn number(n: u32) {
     io::write_all(libc::STDOUT_FILENO, b" ");
     io::print_decimal(libc::STDOUT_FILENO, n as u64);

@@ -1,4 +1,6 @@
 // The program: reads a lock file from standard input, and writes its listing or the refusal line to standard output.
+#![tactic(auto)]
+
 fn print(output: &[u8], length: usize) {
     if length <= output.len() {
         io::write_all(libc::STDOUT_FILENO, &output[..length]);

@@ -1,4 +1,6 @@
 // What a C or C++ host calls; host/include/hmcs.h declares it. Only numbers, and arrays and structs of numbers, are passed.
+#![tactic(auto)]
+
 ghost use Rattle.std.specs.Prelude.{◌≡◌};
 ghost use Rattle.bounds.specs.Answers.{allowances_answer, allowances_left, rounds_answer, wait_bounds_answer, wait_bounds_left};
 ghost use Rattle.chain.specs.Answers.{chain_answer, buffer_answer};
@@ -31,7 +33,7 @@ use waits::WaitsReply;
 
 // The number and place of an answer.
 #[repr(C)]
-#[derive(Drop)]
+#[derive(Clone, Copy)]
 pub struct Answer {
     pub number: u32,
     pub place: u32,
@@ -39,7 +41,7 @@ pub struct Answer {
 
 // The number and place of a step's answer, its kind and its domain; if refused, kind 0 and domain 0.
 #[repr(C)]
-#[derive(Drop)]
+#[derive(Clone, Copy)]
 pub struct StepAnswer {
     pub number: u32,
     pub place: u32,

@@ -3,7 +3,7 @@ use model::LockState;
 
 // Number and place, how many steps are right, and the state after them. Number 0 means accepted.
 #[repr(C)]
-#[derive(Drop)]
+#[derive(Clone, Copy)]
 pub struct StepsReply {
     pub number: u32,
     pub place: usize,

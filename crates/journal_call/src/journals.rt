@@ -130,7 +130,7 @@ fn run_piece(
 }
 
 // The result of a piece: where the next one starts and the thread of the entry before it; or, if stopped, the answer.
-#[derive(Drop)]
+#[derive(Clone, Copy)]
 pub struct Turn {
     pub stopped: bool,
     pub position: usize,

@@ -1,4 +1,6 @@
 // The check of a journal, document 02, (xiv): the tests of the tree, and then the entries.
+#![tactic(auto)]
+
 pub mod pieces;
 pub mod reader;
 pub mod step_check;

@@ -6,7 +6,7 @@ ghost use Rattle.journal_call.specs.Reader.Stretches.{position_after, piece_of, 
 use journal::Entry;
 
 // A borrowed journal, a position in it, and the thread of the entry before the position.
-#[derive(Drop)]
+#[derive(Clone, Copy)]
 pub struct Reader<'a> {
     pub journal: &'a [u8],
     pub position: usize,
@@ -14,7 +14,7 @@ pub struct Reader<'a> {
 }
 
 // Consecutive entries: how many, the position after them, the thread of the last. If 25 or 12 refuses the entry at that position, this number, else 0.
-#[derive(Drop)]
+#[derive(Clone, Copy)]
 pub struct Piece {
     pub count: usize,
     pub position: usize,

@@ -1,9 +1,11 @@
 // What a run that reports its steps returns.
+#![tactic(auto)]
+
 use model::{Counts, LockState};
 
 // What the run returns, and how many rows were written, one per step. Number 0 means accepted.
 #[repr(C)]
-#[derive(Drop)]
+#[derive(Clone, Copy)]
 pub struct KindsReply {
     pub number: u32,
     pub place: u32,

@@ -11,7 +11,7 @@ use crate::steps::{limits, run};
 use model::{Counters, Counts, LockState, PlaceArrays, State, TreeWords};
 
 // The kind and domain of a step.
-#[derive(Drop)]
+#[derive(Clone, Copy)]
 struct FirstStep {
     pub kind: u32,
     pub domain: u32,
@@ -34,7 +34,7 @@ fn first_reported(homes: &[u8; 256], schedule: &[u16], code: u16) -> FirstStep
 }
 
 // Number and place of a run's answer, kind and domain of its first step, and its counts; kind, domain and counts are 0 if it is refused or has no step.
-#[derive(Drop)]
+#[derive(Clone, Copy)]
 pub(crate) struct Ran {
     pub number: u32,
     pub place: u32,

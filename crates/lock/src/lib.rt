@@ -1,4 +1,6 @@
 // The three calls on a lock, by value: each answers as the model says, for every input.
+#![tactic(auto)]
+
 pub mod steps;
 
 ghost use Rattle.std.specs.Prelude.{◌≡◌};

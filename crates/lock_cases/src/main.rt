@@ -1,4 +1,6 @@
 // Cases of document 01's ladder that are executed: what the calls answer, one line each.
+#![tactic(auto)]
+
 use model::{Counters, LockState, PlaceArrays, RunReply, State, TreeWords};
 
 const OUT: i32 = libc::STDOUT_FILENO;

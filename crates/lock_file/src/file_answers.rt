@@ -2,7 +2,7 @@
 
 // What the file call returns. Number 0 means accepted.
 #[repr(C)]
-#[derive(Drop)]
+#[derive(Clone, Copy)]
 pub struct FileReply {
     pub number: u32,
     pub place: u32,

@@ -2,7 +2,7 @@
 
 // What the call returns. Number 0 means accepted.
 #[repr(C)]
-#[derive(Drop)]
+#[derive(Clone, Copy)]
 pub struct WriteReply {
     pub number: u32,
     pub place: u32,

@@ -1,4 +1,6 @@
 // The lock file: its reader.
+#![tactic(auto)]
+
 mod answering;
 pub mod file_answers;
 pub mod file_writer;
@@ -12,7 +14,7 @@ ghost use Rattle.lock_file.specs.Reading.{tree_read, entries_at, filled};
 use model::TreeWords;
 
 // How far reading came: to a position; to the end of the file, inside a field or before one; or to a bit map with a bit that has no meaning.
-#[derive(Drop)]
+#[derive(Clone, Copy)]
 pub enum Reached {
     At(usize),
     Ended,
@@ -20,7 +22,7 @@ pub enum Reached {
 }
 
 // The words of the domains, as many as the arrays hold.
-#[derive(Drop)]
+#[derive(Clone, Copy)]
 pub(crate) struct DomainsRead {
     reached: Reached,
     parents: [u8; 64],
@@ -28,14 +30,14 @@ pub(crate) struct DomainsRead {
 }
 
 // The homes of the threads, as many as the array holds.
-#[derive(Drop)]
+#[derive(Clone, Copy)]
 pub(crate) struct ThreadsRead {
     reached: Reached,
     homes: [u8; 256],
 }
 
 // A tree, and where its schedule starts.
-#[derive(Drop)]
+#[derive(Clone, Copy)]
 pub struct TreeRead {
     pub reached: Reached,
     pub tree: TreeWords,
@@ -43,7 +45,7 @@ pub struct TreeRead {
 
 // What reading a lock file returns. Number 0 means accepted; if refused, the length and all words of the tree are 0.
 #[repr(C)]
-#[derive(Drop)]
+#[derive(Clone, Copy)]
 pub struct ReadReply {
     pub number: u32,
     pub place: u32,

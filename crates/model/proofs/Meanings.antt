@@ -35,11 +35,11 @@ module _ (t : Tree) (valid : Accepted t) (i : ℕ) (h : i < t.threads) where
             below (ancestor t i j) (λ z. absurd (omega arith)) (rw (ancestor_parent_of t valid i h j (omega arith)) (within_at f (suc j) k (omega arith) b (omega arith)))
       ]
 
-  path_from : (k d e : ℕ) → k ≤ height t i → ancestor t i k ≡ e → Within t d e → on_path t i d ≡ true
-  path_from k d e l q itself = rw q at (on_path_at t valid i h k l)
-  path_from k d e l q (below d' n w) =
+  path_from : (d k e : ℕ) → k ≤ height t i → ancestor t i k ≡ e → Within t d e → on_path t i d ≡ true
+  path_from d k e l q itself = rw q at (on_path_at t valid i h k l)
+  path_from d k e l q (below d' n w) =
       let m = ancestor_not_root t valid i h k l (omega (arith, n, q)) in
-      path_from (suc k) d (t.parent e) m (sym (ancestor_parent_of t valid i h k m) ∙ ap t.parent q) w
+      path_from d (suc k) (t.parent e) m (sym (ancestor_parent_of t valid i h k m) ∙ ap t.parent q) w
 
   path_within : (d : ℕ) → on_path t i d ≡ true → Within t d (t.home i)
   path_within d e =
@@ -47,7 +47,7 @@ module _ (t : Tree) (valid : Accepted t) (i : ℕ) (h : i < t.threads) where
       rw (o.there, ancestor_home t i) at (within_at o.index 0 o.index (omega arith) o.within (omega arith))
 
   within_path : (d : ℕ) → Within t d (t.home i) → on_path t i d ≡ true
-  within_path d w = path_from 0 d (t.home i) (omega arith) (ancestor_home t i) w
+  within_path d w = path_from d 0 (t.home i) (omega arith) (ancestor_home t i) w
 
   thread_under : (j : ℕ) → j < 256 → under t j i ≡ eqb j i
   unfolding under

@@ -1,4 +1,6 @@
 // The structs of the C interface. They contain only numbers, in C layout, so that a C++ host can hold them.
+#![tactic(auto)]
+
 
 // Status words of a record: below the root, and at the root.
 pub const COHORT_START: u64 = 1;
@@ -26,7 +28,7 @@ pub const LEAVING: u8 = 5;
 
 // A tree with its threads. The root's parent and threshold and the unused slots are not read. The root is a queue if ticket_root is 0, a ticket lock if it is any other number.
 #[repr(C)]
-#[derive(Drop)]
+#[derive(Clone, Copy)]
 pub struct TreeWords {
     pub domains: u32,
     pub threads: u32,
@@ -38,7 +40,7 @@ pub struct TreeWords {
 
 // A thread's place: a row of the step table (0 Idle to 13 Raise), its domain, the other record that it names, its word. A part that the row does not have is 0.
 #[repr(C)]
-#[derive(Drop)]
+#[derive(Clone, Copy)]
 pub struct PlaceWords {
     pub row: u8,
     pub domain: u8,
@@ -48,7 +50,7 @@ pub struct PlaceWords {
 
 // The places of all threads: one array for each number of a place.
 #[repr(C)]
-#[derive(Drop)]
+#[derive(Clone, Copy)]
 pub struct PlaceArrays {
     pub rows: [u8; 256],
     pub domains: [u8; 256],
@@ -58,7 +60,7 @@ pub struct PlaceArrays {
 
 // The words of a lock. A tail or a next is 0 for none, else the record's number + 1. The counters ticket and grant belong to a ticket lock at the root. In a fresh lock every word is 0, except these two, which a fresh call may start at another number.
 #[repr(C)]
-#[derive(Drop)]
+#[derive(Clone, Copy)]
 pub struct State {
     pub tails: [u16; 64],
     pub nexts: [u16; 320],
@@ -70,7 +72,7 @@ pub struct State {
 
 // For each domain except the root, the entries of its threads, its tenures and its longest tenure; 0 for the root and in unused slots. No step reads them. All are 0 in a fresh lock.
 #[repr(C)]
-#[derive(Drop)]
+#[derive(Clone, Copy)]
 pub struct Counters {
     pub entries: [u64; 64],
     pub tenures: [u64; 64],
@@ -79,14 +81,14 @@ pub struct Counters {
 
 // A lock state as calls take and return it: the words of the lock, and the counters.
 #[repr(C)]
-#[derive(Drop)]
+#[derive(Clone, Copy)]
 pub struct LockState {
     pub words: State,
     pub counters: Counters,
 }
 
 // A thread's place as in the step table; Invalid if the four numbers are no place.
-#[derive(Drop)]
+#[derive(Clone, Copy)]
 pub enum Place {
     Idle,
     Prep(u8),
@@ -106,7 +108,7 @@ pub enum Place {
 }
 
 // The result of the search for a domain's child on a thread's path: the child, and how many domains it looked at.
-#[derive(Drop)]
+#[derive(Clone, Copy)]
 pub struct Found {
     pub child: u8,
     pub looked: u32,
@@ -114,7 +116,7 @@ pub struct Found {
 
 // The counts of a run: all steps, stays included; entries, stays, root entries, passed entries, crossed entries.
 #[repr(C)]
-#[derive(Drop)]
+#[derive(Clone, Copy)]
 pub struct Counts {
     pub steps: u32,
     pub entries: u32,
@@ -126,7 +128,7 @@ pub struct Counts {
 
 // What the three calls return. Number 0 means accepted.
 #[repr(C)]
-#[derive(Drop)]
+#[derive(Clone, Copy)]
 pub struct FreshReply {
     pub number: u32,
     pub place: u32,
@@ -134,7 +136,7 @@ pub struct FreshReply {
 }
 
 #[repr(C)]
-#[derive(Drop)]
+#[derive(Clone, Copy)]
 pub struct StepReply {
     pub number: u32,
     pub place: u32,
@@ -144,7 +146,7 @@ pub struct StepReply {
 }
 
 #[repr(C)]
-#[derive(Drop)]
+#[derive(Clone, Copy)]
 pub struct RunReply {
     pub number: u32,
     pub place: u32,

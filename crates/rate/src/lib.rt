@@ -1,11 +1,13 @@
 // The rate of a busy three-level lock from its thresholds and its passing times.
+#![tactic(auto)]
+
 ghost use Rattle.std.specs.Prelude.{◌≡◌, ◌<◌};
 ghost use Rattle.rate.specs.Rate.{is_time, passing_rate};
 ghost use Rattle.rate.specs.Answers.{rate_answer, reply_of};
 
 // How long it takes to pass the lock on: p1 within a home, p2 between homes below one domain, p3 across the root, all in one unit.
 #[repr(C)]
-#[derive(Drop)]
+#[derive(Clone, Copy)]
 pub struct PassingTimes {
     pub p1: f64,
     pub p2: f64,
@@ -13,7 +15,7 @@ pub struct PassingTimes {
 }
 
 // A rate, in entries per unit of the times, or a refusal.
-#[derive(Drop)]
+#[derive(Clone, Copy)]
 pub enum RateAnswer {
     Rate(f64),
     Refused { number: u32, place: u32 },
@@ -21,7 +23,7 @@ pub enum RateAnswer {
 
 // The same as numbers: 0 and 0 with the rate; if refused, number and place with rate 0.
 #[repr(C)]
-#[derive(Drop)]
+#[derive(Clone, Copy)]
 pub struct RateReply {
     pub number: u32,
     pub place: u32,

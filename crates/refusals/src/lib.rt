@@ -1,4 +1,6 @@
 // The refusals of trees and of schedules, numbers 4 to 9, 16 and 11 to 13; each test looks at everything before the next test.
+#![tactic(auto)]
+
 pub mod of_runs;
 pub mod paths;
 pub mod state_check;
@@ -11,7 +13,7 @@ ghost use Rattle.refusals.specs.Lowest.{Lowest};
 pub mod trees;
 
 // The number and place of an answer; 0 and 0 if accepted.
-#[derive(Drop)]
+#[derive(Clone, Copy)]
 pub struct Refusal {
     pub number: u32,
     pub place: u32,

@@ -8,7 +8,7 @@ pub mod places;
 pub mod rows;
 
 // A thread as a member of a domain on its path: its home, the domain, the domain's child on its path, which is 0 at home, and its record there.
-#[derive(Drop)]
+#[derive(Clone, Copy)]
 pub struct Member {
     pub home: u8,
     pub domain: u8,

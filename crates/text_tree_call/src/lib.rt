@@ -1,4 +1,6 @@
 // Trees as text: the reader of document 02, (i).
+#![tactic(auto)]
+
 mod domains;
 mod numbers;
 mod tree;
@@ -10,28 +12,28 @@ use model::TreeWords;
 use text_tree::TextReply;
 
 // How far reading a domain came: after it, or to a byte with which no text continues.
-#[derive(Drop)]
+#[derive(Clone, Copy)]
 pub(crate) enum Reached {
     After(usize),
     Stuck(usize),
 }
 
 // The tree read so far.
-#[derive(Drop)]
+#[derive(Clone, Copy)]
 pub(crate) struct Reading {
     reached: Reached,
     tree: TreeWords,
 }
 
 // After a domain of a list: another one must follow, or the list is over, closed or not.
-#[derive(Drop)]
+#[derive(Clone, Copy)]
 pub(crate) enum Next {
     Due(usize),
     Over(Reached),
 }
 
 // A number was read up to a position.
-#[derive(Drop)]
+#[derive(Clone, Copy)]
 pub(crate) enum Number {
     Value(usize, u32),
     Stopped(usize),

@@ -1,8 +1,10 @@
 // What a run with waits returns, and a mean.
+#![tactic(auto)]
+
 use model::{Counts, LockState};
 
 // A mean in lowest terms.
-#[derive(Drop)]
+#[derive(Clone, Copy)]
 pub struct Fraction {
     pub numerator: u64,
     pub denominator: u64,
@@ -10,7 +12,7 @@ pub struct Fraction {
 
 // What the run returns, and how many rows were written. Number 0 means accepted.
 #[repr(C)]
-#[derive(Drop)]
+#[derive(Clone, Copy)]
 pub struct WaitsReply {
     pub number: u32,
     pub place: u32,

@@ -1,5 +1,5 @@
 -- Each call of a list answers what the refusals and the step table give at its point of the whole schedule.
-use mathlib.Core.Path.{◌≡◌, refl, sym, ap, ◌∙◌}
+use mathlib.Core.Path.{subst, ◌≡◌, refl, sym, ap, ◌∙◌}
 use mathlib.Core.Bool.{Bool, true, false, cond}
 use mathlib.Core.List.{List, [], ◌∷◌, ◌++◌, append_assoc, append-nil}
 use Prim.Native.Nat.{ℕ, ◌+◌}
@@ -155,7 +155,10 @@ each_from t f (c ∷ cs) pre s here n =
     let rest = joined cs s' in
     let next = each_from t f cs (pre ++ own) s' (returned t f c pre rest s here n.0) n.1 in
     let at : lock_at t f (pre ++ (own ++ rest)) (length pre) ≡ s = at_seam t f pre [] (own ++ rest) ∙ sym here in
-    rw (at, ← call_expected t f c pre rest s here n.0, ← append_assoc pre own rest, ← length-append pre own) (ap (λ others. answer c s ∷ others) next)
+    let seam : (pre ++ own) ++ rest ≡ pre ++ joined (c ∷ cs) s = append_assoc pre own rest in
+    let counted : answers cs s' ≡ expected_answers t f ((pre ++ own) ++ rest) (length pre + length own) cs = rw (length-append pre own) at next in
+    let whole : answers cs s' ≡ expected_answers t f (pre ++ joined (c ∷ cs) s) (length pre + length own) cs = subst (λ (S : List ℕ). answers cs s' ≡ expected_answers t f S (length pre + length own) cs) seam counted in
+    rw (at, ← call_expected t f c pre rest s here n.0) (ap (λ others. answer c s ∷ others) whole)
 
 pub stretches_from :
     (t : Tree) (f : LockState) (cs : List Call) (pre : List ℕ) (s : LockState) → s ≡ reached t f pre → Names t cs s →
@@ -168,9 +171,10 @@ stretches_from t f (c ∷ cs) pre s here n =
     let rest = joined cs s' in
     let next = stretches_from t f cs (pre ++ own) s' (returned t f c pre rest s here n.0) n.1 in
     let at : lock_at t f (pre ++ (own ++ rest)) (length pre) ≡ s = at_seam t f pre [] (own ++ rest) ∙ sym here in
+    let seam : (pre ++ own) ++ rest ≡ pre ++ joined (c ∷ cs) s = append_assoc pre own rest in
     rw at (
       ap (take (length own)) (drop-append_seam pre (own ++ rest)) ∙ take-append_seam own rest,
-      rw (← append_assoc pre own rest, ← length-append pre own) next,
+      subst (λ (S : List ℕ). Stretches t f S (length pre + length own) cs) seam (rw (length-append pre own) at next),
     )
 
 pub joined_threads :

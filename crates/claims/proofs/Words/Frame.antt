@@ -3,10 +3,11 @@ use mathlib.Core.Path.{◌≡◌, refl, sym, ap, ◌∙◌}
 use mathlib.Core.Bool.{true, false}
 use mathlib.Core.List.{List, [], ◌∷◌}
 use mathlib.Core.Logic.{◌≢◌}
-use Prim.Native.Nat.{ℕ, suc, ◌≤◌, ◌<◌}
+use Prim.Native.Nat.{ℕ, suc, ◌+◌, ◌≤◌, ◌<◌}
 use native.Mathlib.Omega.{arith}
 use Rattle.model.specs.declared.Place.{Place}
 use Rattle.model.specs.Trees.{Tree, is_ticket}
+use Rattle.model.specs.States.{wrap}
 use Rattle.model.proofs.Trees.Index.{ancestor, height, record_at}
 use Rattle.model.proofs.Trees.Accepted.{Accepted}
 use Rattle.model.proofs.Trees.Records.{record_injective}
@@ -34,7 +35,7 @@ unfolding Tickets
 tickets_kept f f' v b [] s h = h
 tickets_kept f f' v b (m ∷ ms) s h = (
   s m (omega (arith, count_cons m m ms, is_same m m refl)) ∙ h.0,
-  tickets_kept f f' _ b ms (λ a c. s a (omega (arith, count_cons a m ms))) h.1,
+  tickets_kept f f' (wrap (v + 1)) b ms (λ a c. s a (omega (arith, count_cons a m ms))) h.1,
 )
 
 module _ (t : Tree) (valid : Accepted t) (w : Words) (g : State) (i : ℕ) (h : i < t.threads) (o : Others t w g i) where

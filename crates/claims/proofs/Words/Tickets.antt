@@ -64,12 +64,12 @@ wrap_other v k a b c e = omega arith
 pub tickets_snoc : (f : ℕ → ℕ) (v b m : ℕ) (q : List ℕ) → f m ≡ b → Tickets f v b q → Tickets f v (wrap (b + 1)) (q ++ (m ∷ []))
 unfolding Tickets
 tickets_snoc f v b m [] e h = (e ∙ h, ap (λ n. wrap (n + 1)) h)
-tickets_snoc f v b m (x ∷ xs) e h = (h.0, tickets_snoc f _ b m xs e h.1)
+tickets_snoc f v b m (x ∷ xs) e h = (h.0, tickets_snoc f (wrap (v + 1)) b m xs e h.1)
 
 pub tickets_after : (f : ℕ → ℕ) (v b : ℕ) (q : List ℕ) → v < 65536 → Tickets f v b q → b ≡ wrap (v + length q)
 unfolding Tickets
 tickets_after f v b [] s h = omega (arith, h)
-tickets_after f v b (x ∷ xs) s h = tickets_after f _ b xs (wrap_fits (v + 1)) h.1 ∙ next_wrap v (length xs)
+tickets_after f v b (x ∷ xs) s h = tickets_after f (wrap (v + 1)) b xs (wrap_fits (v + 1)) h.1 ∙ next_wrap v (length xs)
 
 -- a member's ticket is as far after the grant as the member is after the first
 pub record Held (f : ℕ → ℕ) (v a : ℕ) (q : List ℕ) : Type 0 where
@@ -84,7 +84,7 @@ tickets_held f v b a (x ∷ xs) s h c =
     same_or a x _
     (λ e. record { distance = 0; within = omega arith; ticket = ap f e ∙ h.0 ∙ (let z : v ≡ wrap (v + 0) = omega arith in z) })
     (λ e.
-    let r = tickets_held f _ b a xs (wrap_fits (v + 1)) h.1 (omega (arith, count_cons a x xs, is_other a x e)) in
+    let r = tickets_held f (wrap (v + 1)) b a xs (wrap_fits (v + 1)) h.1 (omega (arith, count_cons a x xs, is_other a x e)) in
     record { distance = suc r.distance; within = omega (arith, r.within); ticket = r.ticket ∙ next_wrap v r.distance })
 
 pub tickets_first : (f : ℕ → ℕ) (v b a : ℕ) (q : List ℕ) → Tickets f v b q → first q ≡ suc a → f a ≡ v

@@ -15,7 +15,7 @@ use lock::steps::{limits, run};
 use model::TreeWords;
 
 // How many steps are right, and the number that refuses the next one; 0 if none does.
-#[derive(Drop)]
+#[derive(Clone, Copy)]
 pub(crate) struct Found {
     pub number: u32,
     pub steps: usize,

@@ -8,7 +8,7 @@ use crate::common::places;
 use model::{Place, PlaceWords};
 
 // What a row reports about its step: its kind, and the thread's place after it.
-#[derive(Drop)]
+#[derive(Clone, Copy)]
 pub struct Moved {
     pub kind: u8,
     pub place: PlaceWords,

@@ -85,7 +85,7 @@ fn refusal_of<'s, 'c>(
 }
 
 // Number and place of the answer, the run's counts and the number of rows written; if refused, all counts 0 and no rows.
-#[derive(Drop)]
+#[derive(Clone, Copy)]
 pub(crate) struct Reported {
     pub number: u32,
     pub place: u32,

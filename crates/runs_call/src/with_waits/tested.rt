@@ -11,7 +11,7 @@ use crate::with_waits::waiting;
 use model::{Counts, TreeWords};
 
 // The answer without the state.
-#[derive(Drop)]
+#[derive(Clone, Copy)]
 pub(crate) struct Waited {
     pub number: u32,
     pub place: u32,

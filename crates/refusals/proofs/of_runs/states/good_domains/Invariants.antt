@@ -1,0 +1,18 @@
+-- `refusals::of_runs::states::good_domains` meets its contract: the words of all domains so far are good.
+use mathlib.Core.Path.{◌≡◌, sym}
+use mathlib.Core.Bool.{true, false}
+use Prim.Native.Nat.{ℕ, ◌+◌, ◌≤◌, ◌<◌, ◌-◌}
+use native.Mathlib.Omega.{arith}
+use lib.ListN.{get_or}
+use borrow.Author.Tests.{not-true, not-false}
+use Rattle.model.proofs.Tests.{all_true}
+use Rattle.refusals.specs.OfRuns.Tables.{tail_and_next_in}
+use Rattle.refusals.proofs.Scanning.{one_more, all_fails, by_answer}
+use borrow.Author.Rules.{rules}
+use Rattle.refusals.proofs.of_runs.states.good_domains.Given as goal
+
+abbrev pub invariant-loop-d : goal.invariant-loop-d
+invariant-loop-d l = (l.d ≤ l.domains) × (l.domains ≤ 64) × ((j : ℕ) → j < l.d → tail_and_next_in l.owners j (get_or l.tails j 0) (get_or l.nexts (256 + j) 0) ≡ true)
+
+abbrev pub decreases-loop-d : goal.decreases-loop-d
+decreases-loop-d l = l.domains - l.d

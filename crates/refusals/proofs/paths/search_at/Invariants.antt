@@ -1,0 +1,15 @@
+-- `refusals::paths::search_at` meets its contract: at each turn of the loop, the search from the domain reached gives the result of the whole.
+use mathlib.Core.Path.{◌≡◌, refl, sym, ◌∙◌}
+use Prim.Native.Nat.{◌+◌, ◌-◌, ◌≤◌, ◌<◌}
+use native.Mathlib.Omega.{arith}
+use Rattle.model.specs.Search.{search_from}
+use Rattle.refusals.specs.Arrays.{parents_in}
+use Rattle.refusals.proofs.paths.Children.{search_root, search_hit, search_up, search_end}
+use borrow.Author.Rules.{rules}
+use Rattle.refusals.proofs.paths.search_at.Given as goal
+
+abbrev pub invariant-loop-looked : goal.invariant-loop-looked
+invariant-loop-looked l = (l.looked ≤ 6) × (l.c < l.domains) × (search_from (6 - l.looked) (parents_in l.domains l.parents) l.l l.c l.looked ≡ search_from 6 (parents_in l.domains l.parents) l.l l.home 0)
+
+abbrev pub decreases-loop-looked : goal.decreases-loop-looked
+decreases-loop-looked l = 6 - l.looked

@@ -1,0 +1,15 @@
+-- `refusals::trees::lowest_bad_parent` meets its contract: all domains so far have good parents.
+use mathlib.Core.Path.{sym, ◌∙◌}
+use Prim.Native.Nat.{◌-◌}
+use native.Mathlib.Omega.{arith}
+use Rattle.model.specs.Refusals.{bad_parent}
+use Rattle.refusals.specs.Arrays.{parents_in}
+use Rattle.refusals.proofs.Scanning.{Scanned, scan_begun, scan_goes_on, scan_found, scan_ended}
+use borrow.Author.Rules.{rules}
+use Rattle.refusals.proofs.trees.lowest_bad_parent.Given as goal
+
+abbrev pub invariant-loop-d : goal.invariant-loop-d
+invariant-loop-d l = Scanned l.domains (bad_parent (parents_in l.domains l.parents)) l.d
+
+abbrev pub decreases-loop-d : goal.decreases-loop-d
+decreases-loop-d l = l.domains - l.d
