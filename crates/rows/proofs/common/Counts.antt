@@ -1,5 +1,5 @@
 -- What the functions that count do to arrays of counters, index by index.
-use Rattle.std.proofs.Common.{◌≡◌, ℕ, zero, suc, ◌+◌, ◌<◌, ◌≤◌, max, Bool, true, false, cond, not, ◌&&◌, eqb, ltb, ◌≢◌, List, [], ◌∷◌, length, get_or, set, sym, refl, ap, ◌∙◌, arith, length-set, get_or-set_other, le-ltb, lt-ltb, eq-eqb, ne_eqb, eqb-true}
+use Rattle.std.proofs.Common.{◌≡◌, ℕ, zero, suc, ◌+◌, ◌<◌, ◌≤◌, max, Bool, true, false, cond, not, ◌&&◌, eqb, ltb, ◌≢◌, List, [], ◌∷◌, length, get_or, set, subst, sym, refl, ap, ◌∙◌, arith, length-set, get_or-set_other, le-ltb, lt-ltb, eq-eqb, ne_eqb, eqb-true}
 use mathlib.Core.Bool.{false≢true}
 use native.Mathlib.Decide.{ℕ_discrete, dec_lt}
 use borrow.Author.Tests.{eqb-false}
@@ -36,8 +36,9 @@ set_from h k [] d = refl
 set_from h k (v ∷ vs) zero =
     rw (eq-eqb k (k + 0) (omega arith), kept_from (λ j w. cond (eqb j (k + 0)) (h w) w) (suc k) vs (λ j w l. rw (ne_eqb j (k + 0) (λ z. absurd (omega arith)))))
 set_from h k (v ∷ vs) (suc d) =
-    let z : k + suc d ≡ suc k + d = omega arith in
-    rw (ne_eqb k (k + suc d) (λ y. absurd (omega arith)), z) (ap (λ ws. v ∷ ws) (set_from h (suc k) vs d))
+    let z : suc k + d ≡ k + suc d = omega arith in
+    let later = subst (λ (n : ℕ). set vs d (h (get_or vs d 0)) ≡ each_with_index (λ j w. cond (eqb j n) (h w) w) (suc k) vs) z (set_from h (suc k) vs d) in
+    rw (ne_eqb k (k + suc d) (λ y. absurd (omega arith))) (ap (λ ws. v ∷ ws) later)
 
 pub set_indexed : (h : ℕ → ℕ) (vs : List ℕ) (d : ℕ) → set vs d (h (get_or vs d 0)) ≡ each_with_index (λ j v. cond (eqb j d) (h v) v) 0 vs
 set_indexed h vs d = let z : 0 + d ≡ d = omega arith in rw z at (set_from h 0 vs d)
