@@ -13,7 +13,7 @@ use Rattle.model.specs.Laws.{Typed}
 use Rattle.model.specs.States.{numbers_at}
 
 -- each element of an array fits its type
-numbers_fit : (xs : List ℕ) (us : List Val) → shadow (each ℕ u64-field.row.own_val (map (λ v. v) xs) us) → (k : ℕ) → get_or xs k 0 < 18446744073709551616
+numbers_fit : (xs : List ℕ) (us : List Val) → shadow (each ℕ u64-field.row.own_val xs us) → (k : ℕ) → get_or xs k 0 < 18446744073709551616
 numbers_fit [] us z k = omega arith
 numbers_fit (x ∷ xs) [] z k = absurd z
 numbers_fit (x ∷ xs) (u ∷ us) z zero = z.0.1
@@ -22,22 +22,22 @@ numbers_fit (x ∷ xs) (u ∷ us) z (suc k) = numbers_fit xs us z.1 k
 -- what a call knows about a state that it was passed
 pub typed :
     (s : State) (a b c d e f g : List Val) (u v : List Val) →
-    shadow ((array_field u16-field 64).row.own_val (map (λ v. v) s.tails) a) → shadow ((array_field u16-field 320).row.own_val (map (λ v. v) s.nexts) b) →
-    shadow ((array_field u64-field 320).row.own_val (map (λ v. v) s.statuses) c) → shadow ((array_field u8-field 256).row.own_val (map (λ v. v) s.places.rows) d) →
-    shadow ((array_field u8-field 256).row.own_val (map (λ v. v) s.places.domains) e) → shadow ((array_field u16-field 256).row.own_val (map (λ v. v) s.places.peers) f) →
-    shadow ((array_field u64-field 256).row.own_val (map (λ v. v) s.places.words) g) → shadow (u16-field.row.own_val s.ticket u) →
+    shadow ((array_field u16-field 64).row.own_val s.tails a) → shadow ((array_field u16-field 320).row.own_val s.nexts b) →
+    shadow ((array_field u64-field 320).row.own_val s.statuses c) → shadow ((array_field u8-field 256).row.own_val s.places.rows d) →
+    shadow ((array_field u8-field 256).row.own_val s.places.domains e) → shadow ((array_field u16-field 256).row.own_val s.places.peers f) →
+    shadow ((array_field u64-field 256).row.own_val s.places.words g) → shadow (u16-field.row.own_val s.ticket u) →
     shadow (u16-field.row.own_val s.grant v) → Typed s
 unfolding numbers_at
 typed s a b c d e f g u v ts ns vs rs ds ps ws k l =
     record {
-      tails_room = sym (length-map s.tails (λ v. v)) ∙ ts.1.0.1;
-      nexts_room = sym (length-map s.nexts (λ v. v)) ∙ ns.1.0.1;
-      statuses_room = sym (length-map s.statuses (λ v. v)) ∙ vs.1.0.1;
+      tails_room = ts.1.0.1;
+      nexts_room = ns.1.0.1;
+      statuses_room = vs.1.0.1;
       places_room = record {
-        rows = sym (length-map s.places.rows (λ v. v)) ∙ rs.1.0.1;
-        domains = sym (length-map s.places.domains (λ v. v)) ∙ ds.1.0.1;
-        peers = sym (length-map s.places.peers (λ v. v)) ∙ ps.1.0.1;
-        words = sym (length-map s.places.words (λ v. v)) ∙ ws.1.0.1;
+        rows = rs.1.0.1;
+        domains = ds.1.0.1;
+        peers = ps.1.0.1;
+        words = ws.1.0.1;
       };
       statuses_fit = numbers_fit s.statuses vs.0 vs.1.1;
       ticket_fits = k.1;
