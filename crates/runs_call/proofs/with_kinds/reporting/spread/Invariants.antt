@@ -1,0 +1,15 @@
+-- `runs_call::with_kinds::reporting::spread` meets its contract: the steps from a given one on have two numbers each.
+use mathlib.Core.Path.{◌≡◌}
+use Prim.Native.Nat.{◌+◌, ◌-◌, ◌*◌, ◌%◌, ◌≤◌}
+use native.Mathlib.Omega.{arith}
+use lib.ListN.{length, get_or, length-set}
+use borrow.Author.Rules.{rules}
+use Rattle.runs_call.specs.WithKinds.Spreading.{Spread}
+use Rattle.runs_call.proofs.with_kinds.Spreading.{spread_none, spread_one}
+use Rattle.runs_call.proofs.with_kinds.reporting.spread.Given as goal
+
+abbrev pub invariant-loop-k : goal.invariant-loop-k
+invariant-loop-k l = (l.k ≤ length l.schedule) × Spread l.homes l.schedule l.initial.rows l.k l.rows
+
+abbrev pub decreases-loop-k : goal.decreases-loop-k
+decreases-loop-k l = l.k

@@ -1,0 +1,14 @@
+-- `runs_call::with_waits::greatest_divisor` meets its contract: each division keeps the greatest common divisor.
+use borrow.Author.Rules.{rules}
+use mathlib.Core.Path.{◌≡◌, refl, ◌∙◌}
+use native.Mathlib.Omega.{arith}
+use native.Mathlib.Nat.{mod-lt}
+use Rattle.waits.specs.Rows.{greatest_divisor}
+use Rattle.waits.proofs.Divisors.{euclid, euclid_ends}
+use Rattle.runs_call.proofs.with_waits.greatest_divisor.Given as goal
+
+abbrev pub invariant-loop-y : goal.invariant-loop-y
+invariant-loop-y l = greatest_divisor l.x l.y ≡ greatest_divisor l.a l.b
+
+abbrev pub decreases-loop-y : goal.decreases-loop-y
+decreases-loop-y l = l.y

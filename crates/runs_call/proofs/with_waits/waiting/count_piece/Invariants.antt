@@ -1,0 +1,12 @@
+-- `runs_call::with_waits::waiting::count_piece` meets its contract: the steps so far are counted.
+use Prim.Native.Nat.{◌-◌}
+use lib.ListN.{length}
+use borrow.Author.Rules.{rules}
+use Rattle.runs_call.proofs.with_waits.Counting.{CountedSoFar, counted_start, thread_small, codes_long, entered_few, note_fits, counted_read, counted_ends}
+use Rattle.runs_call.proofs.with_waits.waiting.count_piece.Given as goal
+
+abbrev pub invariant-loop-k : goal.invariant-loop-k
+invariant-loop-k l = CountedSoFar l.tree l.schedule l.codes l.initial.marks l.initial.attempts l.initial.totals l.initial.longest l.count l.marks l.attempts l.totals l.longest l.entered l.k
+
+abbrev pub decreases-loop-k : goal.decreases-loop-k
+decreases-loop-k l = length l.schedule - l.k

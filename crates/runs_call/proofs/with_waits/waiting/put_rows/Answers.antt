@@ -1,0 +1,26 @@
+-- `runs_call::with_waits::waiting::put_rows` meets its contract: the rows stored so far.
+use Prim.Native.Nat.{◌-◌}
+use native.Mathlib.Omega.{arith}
+use borrow.Author.Rules.{rules}
+use Rattle.waits.specs.Rows.{row_with}
+use Rattle.runs_call.proofs.with_waits.Writing.{Written, written_start, written_turn, written_long, written_ends, row_room}
+use Rattle.runs_call.proofs.with_waits.waiting.put_rows.Goals as goal
+
+pub loop-k-init : goal.loop-k-init
+loop-k-init c = written_start _ _ _ _ _
+
+pub put_row-requires : goal.put_row-requires
+put_row-requires c = row_room _ _ _ _ _ _ _ _ _ _ _ c.loop-k.invariant c.requires.threads_in_bounds
+
+pub overflow_add-all_attempts : goal.overflow_add-all_attempts
+overflow_add-all_attempts c = let more = c.loop-k-test.true in
+    omega (arith, c.loop-k.invariant.attempts_small, c.requires.small.small c.loop-k.k (omega (arith, more, c.requires.threads_bound)), more, c.requires.threads_bound)
+
+pub loop-k-preserved : goal.loop-k-preserved
+loop-k-preserved c = written_turn _ _ _ _ _ _ _ _ _ _ _ c.loop-k.invariant c.loop-k-test.true c.requires.threads_bound c.requires.small _ c.put_row.ensures _ _ c.capped_sum-all_totals.ensures c.larger-most.ensures
+
+pub put_row-requires-2 : goal.put_row-requires-2
+put_row-requires-2 c = row_room _ _ _ _ _ _ _ _ _ _ _ c.loop-k.invariant c.requires.threads_in_bounds
+
+pub returns : goal.returns
+returns c = written_ends _ _ _ _ _ _ _ _ _ _ _ c.loop-k.invariant c.loop-k-test.false _ c.put_row-2.ensures
