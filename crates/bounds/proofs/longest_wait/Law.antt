@@ -13,7 +13,7 @@ use Rattle.model.specs.declared.State.{State as WordState}
 use Rattle.model.specs.Trees.{Tree, is_ticket}
 use Rattle.model.specs.Places.{words_of}
 use Rattle.model.specs.States.{place, fresh_state}
-use Rattle.model.specs.Steps.{is_entry, Step, step, row}
+use Rattle.model.specs.Steps.{is_entry, Step, step}
 use Rattle.model.specs.Runs.{steps, state_after, entering, occurrences}
 use Rattle.model.specs.Refusals.{tree_refusal}
 use Rattle.model.specs.Laws.{AllThreads, SixteenBit, KindLaw}
@@ -35,7 +35,7 @@ use Rattle.waits.specs.Attempts.{swaps_at, draws, begins_from, begins as begins_
 use Rattle.bounds.proofs.starvation_freedom.Situations as situations
 use Rattle.bounds.proofs.starvation_freedom.Situations.{Situation, queues, next_words, place_other}
 use Rattle.bounds.proofs.starvation_freedom.Queues.{tag}
-use Rattle.bounds.proofs.starvation_freedom.Says.{Says, says, stands, Staged, staged}
+use Rattle.bounds.proofs.starvation_freedom.Says.{Says, says, Staged, staged}
 use Rattle.bounds.proofs.starvation_freedom.Turns.{FromIdle, to_swap, drawn_inside, drawn_watch, idle_turn}
 use Rattle.bounds.specs.LongestWait.Bounds.{effective, wait_bound}
 use Rattle.bounds.specs.LongestWait.InLine.{ends_at, others_entry, in_line, bypass, prompt, late_entry, count_steps}

@@ -30,7 +30,7 @@ hits_shown T (moved {e = e} mv) n = event_sum (λ e. hit e n) refl e
 hits_shown T (begun i h e c) n = hits_shown T c n
 
 -- before an entry it is pending, and after it the thread is inside
-entered_move : (T : Tree) {st st' : State} {i : ℕ} → Move T st (entered i) st' → (pending (st.stage i) ≡ 1) × (st'.stage i ≡ inside)
+entered_move : (T : Tree) {st : State} {i : ℕ} {st' : State} → Move T st (entered i) st' → (pending (st.stage i) ≡ 1) × (st'.stage i ≡ inside)
 unfolding pending
 entered_move T {st} (join_root i j e r z) = (ap pending e, put_same st.stage i inside i refl)
 entered_move T {st} (enter i e) = (ap pending e, put_same st.stage i inside i refl)

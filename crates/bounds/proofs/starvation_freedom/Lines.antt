@@ -7,7 +7,6 @@ use Prim.Native.Nat.{ℕ, suc, ◌+◌, ◌≤◌, ◌<◌}
 use native.Mathlib.Omega.{arith}
 use lib.ListN.{length, length-append}
 use Rattle.model.specs.Trees.{Tree, is_member}
-use Rattle.model.specs.States.{place}
 use Rattle.model.specs.Laws.{SixteenBit}
 use Rattle.model.proofs.Lists.{first, first_cons, is, is_same, count, count_append, count_cons, first_nil}
 use Rattle.model.proofs.Trees.Index.{ancestor, height, record_at}

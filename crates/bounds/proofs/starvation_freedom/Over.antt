@@ -21,7 +21,7 @@ use Rattle.model.proofs.Trees.Accepted.{Accepted}
 use Rattle.model.proofs.Trees.Paths.{ancestor_inner, ancestor_strict}
 use Rattle.model.proofs.Trees.Records.{own_record_at}
 use Rattle.model.proofs.Places.{place_stored}
-use Rattle.claims.proofs.Queues.Moves.{Stage, queued, holding, releasing, low}
+use Rattle.claims.proofs.Queues.Moves.{Stage, holding, releasing, low}
 use Rattle.claims.proofs.Queues.Invariant.{low_down}
 use Rattle.claims.proofs.Words.View.{words_in}
 use Rattle.claims.proofs.Words.Represents.{letting_go}

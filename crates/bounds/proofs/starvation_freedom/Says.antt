@@ -12,7 +12,7 @@ use Rattle.model.proofs.Trees.Index.{ancestor, height}
 use Rattle.model.proofs.Trees.Accepted.{Accepted}
 use Rattle.model.proofs.Trees.Paths.{ancestor_inner, ancestor_injective}
 use Rattle.claims.proofs.Queues.Moves.{queued, holding, down, Stage}
-use Rattle.claims.proofs.Words.View.{Words, words_in}
+use Rattle.claims.proofs.Words.View.{words_in}
 use Rattle.claims.proofs.Words.Represents.{letting_go, letting_go_lower}
 pub use Rattle.claims.proofs.Words.Says.{Waiting, stands, woken, granted, Granting, pass, release, At}
 unfoldable pub use Rattle.claims.proofs.Words.Says.{Says}

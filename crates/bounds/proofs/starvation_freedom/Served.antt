@@ -17,7 +17,7 @@ use Rattle.model.proofs.Trees.Accepted.{Accepted}
 use Rattle.model.proofs.Trees.Paths.{ancestor_real, ancestor_not_root}
 use Rattle.claims.proofs.Queues.Paths.{Laws, laws}
 use Rattle.claims.proofs.Queues.Meeting.{same_height}
-use Rattle.claims.proofs.Queues.Moves.{queued, releasing, low}
+use Rattle.claims.proofs.Queues.Moves.{releasing, low}
 use Rattle.claims.proofs.Queues.Invariant.{low_acts, unique}
 use Rattle.claims.proofs.Words.Represents.{letting_go, letting_go_low, letting_go_lower}
 use Rattle.claims.proofs.Words.Releasing.{done_at}

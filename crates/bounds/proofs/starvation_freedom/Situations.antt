@@ -8,7 +8,7 @@ use Rattle.model.specs.States.{place}
 use Rattle.model.specs.Steps.{row, step}
 use Rattle.model.specs.Laws.{SixteenBit}
 use Rattle.model.proofs.Trees.Accepted.{Accepted}
-use Rattle.claims.proofs.Queues.Moves.{queued, State}
+use Rattle.claims.proofs.Queues.Moves.{State}
 use Rattle.claims.proofs.Queues.Invariant.{Inv}
 use Rattle.claims.proofs.Claims.Reached.{Queued, outcome_at, queued_after}
 use Rattle.chain.proofs.Reached.Rows.{place_kept}

@@ -1,9 +1,9 @@
 -- WHO MEETS WHAT THE LAWS ASK: inputs that have at once all that a law of `bounds` asks of them beside a tree, a schedule and a thread, which `Witnesses` of `model` has; docs/WITNESSES.md is the list.
-use Rattle.std.specs.Prelude.{◌≡◌, true, List, [], ◌∷◌, ◌++◌, ℕ, ◌*◌, ◌≤◌, ◌<◌, length, replicate}
+use Rattle.std.specs.Prelude.{◌≡◌, true, List, [], ◌∷◌, ℕ, ◌*◌, ◌≤◌, length, replicate}
 use Rattle.model.specs.declared.TreeWords.{TreeWords}
 use Rattle.model.specs.Trees.{Tree, tree_of, level}
 use Rattle.model.specs.States.{place, fresh_state}
-use Rattle.model.specs.Runs.{steps, run, occurrences}
+use Rattle.model.specs.Runs.{steps, run}
 use Rattle.model.specs.Refusals.{tree_refusal}
 use Rattle.model.specs.Cases.Marked.{tree, two_homes}
 use Rattle.model.specs.Cases.Ticket.{three_in_ticket}

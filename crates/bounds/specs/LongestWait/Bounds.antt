@@ -1,6 +1,6 @@
 -- HOW MANY ENTRIES of others a thread waits for at most while nobody stalls, as a function of the tree.
-use Rattle.std.specs.Prelude.{◌&&◌, not, cond, ℕ, zero, suc, ◌+◌, ◌*◌, ◌-◌, ◌/◌, eqb, ltb}
-use Rattle.model.specs.Trees.{Tree, is_member, level, allowance}
+use Rattle.std.specs.Prelude.{cond, ℕ, zero, suc, ◌+◌, ◌*◌, ◌-◌, ◌/◌, eqb}
+use Rattle.model.specs.Trees.{Tree, level}
 unfoldable pub use Rattle.claims.specs.Tenures.Laws.{sum_below}
 unfoldable pub use Rattle.bounds.specs.StarvationFreedom.Bounds.{effective_threshold, effective, passes, others_passes}
 use Rattle.bounds.specs.StarvationFreedom.Bounds.{members}
