@@ -11,7 +11,6 @@ use Rattle.model.specs.declared.TreeWords.{TreeWords}
 use Rattle.model.specs.declared.LockState.{LockState}
 use Rattle.model.specs.Trees.{tree_of}
 use Rattle.model.specs.WellFormed.{well_formed}
-use Rattle.model.specs.Refusals as model
 use Rattle.model.specs.Refusals.{refusal, accepted, first_refusal, run_tests_before_19, tree_refusal}
 use Rattle.model.specs.Laws.{AllThreads}
 use Rattle.model.proofs.Laws.Calls.{early_facts}
