@@ -1,0 +1,11 @@
+-- `journal_call::journals::check_entries` meets its contract: going through the journal from a fresh lock gives the answer.
+use mathlib.Core.Path.{◌∙◌}
+use Rattle.journal_call.proofs.Journaling.{start}
+use borrow.Author.Rules.{rules}
+use Rattle.journal_call.proofs.journals.check_entries.Goals as goal
+
+pub walk_entries-last-requires : goal.walk_entries-last-requires
+walk_entries-last-requires c = start _ _ c.requires _ c.fresh_state-fresh.ensures
+
+pub returns : goal.returns
+returns c = c.answer_at.ensures ∙ c.walk_entries-last.ensures

@@ -1,0 +1,17 @@
+-- `journal_call::pieces::blocks::read_block` meets its contract: each entry is complete, since no entry has more than four bytes, and its size is in the table.
+use mathlib.Core.Path.{◌≡◌, refl, sym, ap, ◌∙◌}
+use Prim.Native.Nat.{◌+◌, ◌*◌, ◌-◌, ◌≤◌, ◌<◌}
+use native.Mathlib.Omega.{arith}
+use lib.ListN.{length}
+use Rattle.journal.specs.Reading.{entry_size}
+use Rattle.journal_call.specs.Reader.Stretches.{ReadOn}
+use Rattle.journal_call.proofs.reader.Stretching.{nothing, one, more, threads_long, kinds_long, broken, unknown, reached}
+use Rattle.journal_call.proofs.pieces.Sizes.{entry_read, no_entry}
+use borrow.Author.Rules.{rules}
+use Rattle.journal_call.proofs.pieces.blocks.read_block.Given as goal
+
+abbrev pub invariant-loop-count : goal.invariant-loop-count
+invariant-loop-count l = (l.count ≤ l.end) × (l.passed + 4 * l.from ≤ 4 * l.count) × ReadOn l.known l.journal l.position l.before l.initial.threads l.initial.kinds l.from l.threads l.kinds l.count (l.position + l.passed) l.last
+
+abbrev pub decreases-loop-count : goal.decreases-loop-count
+decreases-loop-count l = l.end - l.count

@@ -1,0 +1,21 @@
+-- `journal_call::pieces::blocks::sizes_from` meets its contract: the sizes for the bytes so far are in the table.
+use mathlib.Core.Path.{◌≡◌, refl}
+use Prim.Native.Nat.{◌-◌, ◌≤◌}
+use native.Mathlib.Omega.{arith}
+use Rattle.journal_call.specs.Pieces.Pieces.{SizesFrom}
+use Rattle.journal_call.proofs.pieces.Sizes.{no_size, one_size}
+use borrow.Author.Rules.{rules}
+use Rattle.journal_call.proofs.pieces.blocks.sizes_from.Goals as goal
+
+pub loop-k-init : goal.loop-k-init
+loop-k-init c = (omega arith, no_size _ _ _ refl)
+
+pub loop-k-smaller : goal.loop-k-smaller
+loop-k-smaller c = omega arith
+
+pub loop-k-preserved : goal.loop-k-preserved
+loop-k-preserved c = (omega arith, one_size _ _ _ _ _ c.loop-k.invariant.1 (omega arith) c.size_by.ensures)
+
+pub returns : goal.returns
+returns c = let done : c.loop-k.k ≡ 128 = omega (arith, c.loop-k.invariant.0, c.loop-k-test.false) in
+    rw done at c.loop-k.invariant.1
