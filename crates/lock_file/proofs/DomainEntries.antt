@@ -85,25 +85,25 @@ domains_bytes bs (suc k) d at next ps hs a b e =
     (λ p g. let bad : BadMap p ≡ At next = rw (domain_bad bs k d at ps hs p g) at e in absurd (let z : ◌≡◌ {A = ℕ} 0 1 = cc in omega arith))
 
 -- conversely, entries at a position are read, and their words stored
-pub record DomainsRead (bs : List ℕ) (d k at : ℕ) (r : DomainsRead) (given_ps given_hs bytes rest : List ℕ) : Type 0 where
+pub record DomainsStored (bs : List ℕ) (d k at : ℕ) (r : DomainsRead) (given_ps given_hs bytes rest : List ℕ) : Type 0 where
   pub reached : r.reached ≡ At (at + length bytes)
   pub after : drop (at + length bytes) bs ≡ rest
   pub parents_given : (j : ℕ) → d ≤ j → j < d + k → j < 64 → get_or r.parents j 0 ≡ get_or given_ps j 0
   pub thresholds_given : (j : ℕ) → d ≤ j → j < d + k → j < 64 → get_or r.thresholds j 0 ≡ get_or given_hs j 0
 
 pub domains_stored :
-    (bs : List ℕ) (k d at : ℕ) (ps hs given_ps given_hs xs rest : List ℕ) → length ps ≡ 64 → length hs ≡ 64 → length given_ps ≡ 64 →
+    (bs given_ps given_hs : List ℕ) (k d at : ℕ) (ps hs xs rest : List ℕ) → length ps ≡ 64 → length hs ≡ 64 → length given_ps ≡ 64 →
     length given_hs ≡ 64 → DomainEntries given_ps given_hs d k xs → drop at bs ≡ xs ++ rest →
-    DomainsRead bs d k at (domains_from bs k d at ps hs) given_ps given_hs xs rest
+    DomainsStored bs d k at (domains_from bs k d at ps hs) given_ps given_hs xs rest
 unfolding domains_from
-domains_stored bs k d at ps hs gp gh xs rest a b c f (no_domain d') e =
+domains_stored bs gp gh k d at ps hs xs rest a b c f (no_domain d') e =
     record {
       reached = rw add-zero;
       after = rw add-zero e;
       parents_given = λ j l m n. absurd (omega arith);
       thresholds_given = λ j l m n. absurd (omega arith);
     }
-domains_stored bs k d at ps hs gp gh xs rest a b c f (next_domain d' k' p h ys zs entry hold_p hold_h entries) e =
+domains_stored bs gp gh k d at ps hs xs rest a b c f (next_domain d' k' p h ys zs entry hold_p hold_h entries) e =
     let first = domain_fields bs at p h ys (zs ++ rest) entry (rw append_assoc at e) in
     let n = at + length ys in
     let long : n + length zs ≡ at + length (ys ++ zs) = omega (arith, length-append ys zs) in
@@ -112,7 +112,7 @@ domains_stored bs k d at ps hs gp gh xs rest a b c f (next_domain d' k' p h ys z
     let a2 = stored_length 64 ps d (parent_at bs at) ∙ a in
     let b2 = stored_length 64 hs d (threshold_at bs at) ∙ b in
     let then = domain_then bs k' d at ps hs n first.reached in
-    let others = domains_stored bs k' (d + 1) n qs is gp gh zs rest a2 b2 c f entries first.after in
+    let others = domains_stored bs gp gh k' (d + 1) n qs is zs rest a2 b2 c f entries first.after in
     let kept = domains_kept bs k' (d + 1) n qs is d (inl (omega arith)) in
     rw then
     (record {

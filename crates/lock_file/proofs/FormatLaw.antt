@@ -17,8 +17,8 @@ use Rattle.lock_file.specs.Format.{FullRoom, Describes}
 use Rattle.lock_file.specs.ReadingLaws.{FormatLaw}
 use Rattle.lock_file.proofs.Bytes.{next_byte, starts, field_reached}
 use Rattle.lock_file.proofs.Stored.{same_words}
-use Rattle.lock_file.proofs.DomainEntries.{domains_room, domains_kept, domains_bytes, DomainsRead, domains_stored}
-use Rattle.lock_file.proofs.ThreadEntries.{threads_room, threads_kept, threads_within, threads_bytes, ThreadsRead, threads_stored}
+use Rattle.lock_file.proofs.DomainEntries.{domains_room, domains_kept, domains_bytes, DomainsStored, domains_stored}
+use Rattle.lock_file.proofs.ThreadEntries.{threads_room, threads_kept, threads_within, threads_bytes, ThreadsStored, threads_stored}
 use Rattle.lock_file.proofs.ScheduleEntries.{schedule_bytes, schedule_stored}
 use Rattle.lock_file.proofs.Accepted.{reading_accepted, schedule_started, threads_started, domains_started}
 
@@ -118,7 +118,7 @@ accepted_describes bs w is e =
 -- the words that are read are the ones described
 domains_same :
     (bs : List ℕ) (w : TreeWords) (xs rest : List ℕ) → domain_count bs ≡ w.domains → FullRoom w →
-    DomainsRead bs 1 (domain_count bs - 1) 1 (domains_of bs) w.parents w.thresholds xs rest →
+    DomainsStored bs 1 (domain_count bs - 1) 1 (domains_of bs) w.parents w.thresholds xs rest →
     ((domains_of bs).parents ≡ w.parents) × ((domains_of bs).thresholds ≡ w.thresholds)
 domains_same bs w xs rest e room r =
     let own = read_room bs 0 in (
@@ -138,7 +138,7 @@ domains_same bs w xs rest e room r =
 
 threads_same :
     (bs : List ℕ) (q : ℕ) (w : TreeWords) (xs rest : List ℕ) → two_bytes bs q ≡ w.threads → FullRoom w →
-    ThreadsRead bs 0 (two_bytes bs q) (q + 2) (threads_of bs q) w.homes xs rest → (threads_of bs q).homes ≡ w.homes
+    ThreadsStored bs 0 (two_bytes bs q) (q + 2) (threads_of bs q) w.homes xs rest → (threads_of bs q).homes ≡ w.homes
 threads_same bs q w xs rest e room r =
     let own = read_room bs q in
     same_words 256 0 w.threads (threads_of bs q).homes w.homes own.homes_room room.homes_room
@@ -177,7 +177,7 @@ read_through bs w is x =
     let root : root_number bs ≡ w.ticket_root = omega (arith, a.first) in
     let domains =
     rw (← count) at
-    (domains_stored bs (w.domains - 1) 1 1 (replicate 64 0) (replicate 64 0) w.parents w.thresholds x.domain_bytes _ refl refl
+    (domains_stored bs w.parents w.thresholds (w.domains - 1) 1 1 (replicate 64 0) (replicate 64 0) x.domain_bytes _ refl refl
     x.room.parents_room x.room.thresholds_room x.domains_given a.after)
     in
     let q = 1 + length x.domain_bytes in
@@ -187,7 +187,7 @@ read_through bs w is x =
     let counted : two_bytes bs q ≡ w.threads = rw (b.first, c.first) (sym x.threads_counted) in
     let threads =
     rw (← counted) at
-    (threads_stored bs w.threads 0 0 (q + 2) (replicate 256 0) w.homes x.thread_bytes _ refl x.room.homes_room x.threads_given
+    (threads_stored bs w.homes w.threads 0 0 (q + 2) (replicate 256 0) x.thread_bytes _ refl x.room.homes_room x.threads_given
     (rw z at c.after))
     in
     let schedule = schedule_stored bs (q + 2 + length x.thread_bytes) is x.schedule_bytes x.schedule_given threads.after in

@@ -92,24 +92,24 @@ threads_bytes bs (suc k) i before at next hs a e =
     absurd (let z : ◌≡◌ {A = ℕ} 0 1 = cc in omega arith))
 
 -- conversely, entries at a position are read, and their homes stored
-pub record ThreadsRead (bs : List ℕ) (i k at : ℕ) (r : ThreadsRead) (given bytes rest : List ℕ) : Type 0 where
+pub record ThreadsStored (bs : List ℕ) (i k at : ℕ) (r : ThreadsRead) (given bytes rest : List ℕ) : Type 0 where
   pub reached : r.reached ≡ At (at + length bytes)
   pub after : drop (at + length bytes) bs ≡ rest
   pub homes_given : (j : ℕ) → i ≤ j → j < i + k → j < 256 → get_or r.homes j 0 ≡ get_or given j 0
 
 pub threads_stored :
-    (bs : List ℕ) (k i before at : ℕ) (hs given xs rest : List ℕ) → length hs ≡ 256 → length given ≡ 256 →
-    ThreadEntries given i k before xs → drop at bs ≡ xs ++ rest → ThreadsRead bs i k at (threads_from bs k i before at hs) given xs rest
+    (bs given : List ℕ) (k i before at : ℕ) (hs xs rest : List ℕ) → length hs ≡ 256 → length given ≡ 256 →
+    ThreadEntries given i k before xs → drop at bs ≡ xs ++ rest → ThreadsStored bs i k at (threads_from bs k i before at hs) given xs rest
 unfolding threads_from
-threads_stored bs k i before at hs given xs rest a b (no_thread i' before') e =
+threads_stored bs given k i before at hs xs rest a b (no_thread i' before') e =
     record { reached = rw add-zero; after = rw add-zero e; homes_given = λ j l m n. absurd (omega arith) }
-threads_stored bs k i before at hs given xs rest a b (next_thread i' k' before' h ys zs entry hold entries) e =
+threads_stored bs given k i before at hs xs rest a b (next_thread i' k' before' h ys zs entry hold entries) e =
     let first = thread_fields bs at before h ys (zs ++ rest) entry (rw append_assoc at e) in
     let n = at + length ys in
     let long : n + length zs ≡ at + length (ys ++ zs) = omega (arith, length-append ys zs) in
     let then = rw first.home at (thread_then bs k' i before at hs n first.reached) in
     let ms = stored 256 hs i h in
-    let others = threads_stored bs k' (i + 1) h n ms given zs rest (stored_length 256 hs i h ∙ a) b entries first.after in
+    let others = threads_stored bs given k' (i + 1) h n ms zs rest (stored_length 256 hs i h ∙ a) b entries first.after in
     let kept = threads_kept bs k' (i + 1) h n ms i (inl (omega arith)) in
     rw then
     (record {

@@ -1,5 +1,5 @@
 -- A file for each number that the file call can answer.
-use Rattle.std.specs.Prelude.{◌≡◌, List, [], ◌∷◌, ◌++◌, map, ℕ, replicate}
+use Rattle.std.specs.Prelude.{◌≡◌, List, [], ◌∷◌, map, ℕ, replicate}
 use Rattle.lock_file.specs.Cases.Reading.{pairs, example}
 use Rattle.lock_file.specs.FileAnswers.FileAnswers.{file_answer}
 use Rattle.lock_file.specs.FileAnswers.FileLaws.{possible_numbers}
