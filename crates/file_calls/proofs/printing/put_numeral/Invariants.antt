@@ -1,0 +1,18 @@
+-- `file_calls::printing::put_numeral` meets its contract: at each turn of the loop, what remains to write gives the result of the whole.
+use mathlib.Core.Path.{◌≡◌, refl, ◌∙◌}
+use Prim.Native.Nat.{◌+◌, ◌-◌, ◌/◌, ◌≤◌}
+use native.Mathlib.Omega.{arith}
+use lib.ListN.{length, length-set}
+use lib.Seq.{sets}
+use borrow.Author.Rules.{rules}
+use Rattle.lock_file.specs.PrintedListing.Listing.{numeral}
+use Rattle.file_calls.proofs.printing.Writing.{last_digit, only_digit}
+use Rattle.lock_file.proofs.printed_listing.Numerals.{length_large, length_positive}
+use Rattle.file_calls.proofs.printing.put_numeral.Given as goal
+
+abbrev pub invariant-loop-rest : goal.invariant-loop-rest
+invariant-loop-rest l = (l.left ≡ length (numeral l.rest)) × (length l.output ≡ length l.initial.output)
+    × (sets l.output l.at (numeral l.rest) ≡ sets l.initial.output l.at (numeral l.value)) × (l.at + l.left ≤ length l.initial.output)
+
+abbrev pub decreases-loop-rest : goal.decreases-loop-rest
+decreases-loop-rest l = l.rest

@@ -1,0 +1,19 @@
+-- `file_calls::printing::put_trace` meets its contract: at each turn of the loop, what remains to write gives the result of the whole.
+use mathlib.Core.Path.{ap, ◌≡◌, refl, sym, ◌∙◌}
+use Prim.Native.Nat.{◌+◌, ◌*◌, ◌-◌, ◌≤◌}
+use native.Mathlib.Omega.{arith}
+use lib.ListN.{length, drop}
+use lib.Seq.{sets}
+use borrow.Author.Rules.{rules}
+use Rattle.lock_file.specs.PrintedListing.Listing.{numeral, trace_lines}
+use Rattle.file_calls.proofs.printing.Writing.{trace_written}
+use Rattle.lock_file.proofs.printed_listing.Numerals.{length_number, length_word, trace_length_next, trace_lines_over}
+use Rattle.file_calls.proofs.printing.put_trace.Given as goal
+
+abbrev pub invariant-loop-k : goal.invariant-loop-k
+invariant-loop-k l = (l.k ≤ length l.trace) × (length l.output ≡ length l.initial.output)
+    × (l.at + length (trace_lines (drop l.k l.trace)) ≡ l.start + length (trace_lines l.trace))
+    × (sets l.output l.at (trace_lines (drop l.k l.trace)) ≡ sets l.initial.output l.start (trace_lines l.trace)) × (l.at ≤ l.start + 11 * l.k)
+
+abbrev pub decreases-loop-k : goal.decreases-loop-k
+decreases-loop-k l = length l.trace - l.k
