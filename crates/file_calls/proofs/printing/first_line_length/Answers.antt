@@ -9,5 +9,5 @@ use Rattle.file_calls.proofs.printing.first_line_length.Goals as goal
 
 pub returns : goal.returns
 returns c = let whole = length_first_line c.args.counts in
-    let n = ap (λ v. length (spaced v)) c.Numbers-of.ensures in
+    let n = ap (λ v. length (spaced v)) c.numbers_of-numbers.ensures in
     record { value = omega arith; upper_bound = omega arith }

@@ -21,7 +21,7 @@ bounds-output-at c = omega (arith, length_positive c.loop-rest.rest)
 
 pub loop-rest-preserved : goal.loop-rest-preserved
 loop-rest-preserved c = let ten = c.loop-rest-test.true in
-    let shorter : c.loop-rest.false - 1 ≡ length (numeral (c.loop-rest.rest / 10)) = omega (arith, length_large c.loop-rest.rest ten) in (
+    let shorter : c.loop-rest.left - 1 ≡ length (numeral (c.loop-rest.rest / 10)) = omega (arith, length_large c.loop-rest.rest ten) in (
       shorter,
       simp length-set c.loop-rest.invariant.1,
       rw c.digit_of.ensures (last_digit c.loop-rest.output _ c.loop-rest.rest _ ten shorter ∙ c.loop-rest.invariant.2),

@@ -26,7 +26,7 @@ pub loop-k-preserved : goal.loop-k-preserved
 loop-k-preserved c = let ns = c.args.numbers.now in
     let next = spaced_length_next ns c.loop-k.k c.loop-k-test.true in (
       search rules,
-      c.put_numeral-at.auto.0 ∙ length-set c.loop-k.output c.loop-k.at 32 ∙ c.loop-k.invariant.1,
+      c.put_numeral-at.auto.output ∙ length-set c.loop-k.output c.loop-k.at 32 ∙ c.loop-k.invariant.1,
       omega (arith, c.put_numeral-at.ensures.value),
       rw (c.put_numeral-at.ensures.output_after, c.put_numeral-at.ensures.value) (sym (spaced_written c.loop-k.output c.loop-k.at ns c.loop-k.k c.loop-k-test.true) ∙ c.loop-k.invariant.3),
     )

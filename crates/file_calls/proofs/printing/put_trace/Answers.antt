@@ -22,7 +22,7 @@ loop-k-preserved c = let a = c.args in
     let t = c.loop-k-test.true in
     let next = trace_length_next a.trace.now c.loop-k.k t in (
       search rules,
-      c.put_number-at.auto.0 ∙ c.loop-k.invariant.1,
+      c.put_number-at.auto.output ∙ c.loop-k.invariant.1,
       omega (arith, c.put_number-at.ensures.value, length_number c.word_number-i.result 10, ap (λ v. length (numeral v)) c.word_number-i.ensures),
       rw (c.put_number-at.ensures.output_after, c.put_number-at.ensures.value, c.word_number-i.ensures) (sym (trace_written c.loop-k.output c.loop-k.at a.trace.now c.loop-k.k t) ∙ c.loop-k.invariant.3),
       omega (arith, c.put_number-at.ensures.value, length_number c.word_number-i.result 10, length_word c.word_number-i.result (omega arith)),

@@ -30,7 +30,7 @@ pub put_trace-requires : goal.put_trace-requires
 put_trace-requires c = let a = c.args in
     let line = c.first_line_length-line.result in
     let fits = leb-true (length (trace_lines a.trace.now)) (length a.output.now - line) (sym c.trace_fits.ensures ∙ not-false _ c.if-not-trace_fits.false-raw) in
-    omega (arith, c.put_first_line-at.ensures.value, c.put_first_line-at.kept.0)
+    omega (arith, c.put_first_line-at.ensures.value, c.put_first_line-at.auto.output)
 
 pub returns : goal.returns
 returns c = let a = c.args in

@@ -24,4 +24,4 @@ returns c = let a = c.args in
     let long = length_refusal_line a.number a.place in
     let fits : length line ≤ length a.output.now = omega arith in
     record { value = rw (length_fits line _ fits) (omega (arith, c.put_spaced.ensures.value)); output_after = rw (printed_fits line _ fits)
-          (c.put_spaced.ensures.output_after ∙ rw c.Put-refused.ensures (line_written a.output.now (114 ∷ 101 ∷ 102 ∷ 117 ∷ 115 ∷ 101 ∷ 100 ∷ []) (a.number ∷ a.place ∷ []) fits)) }
+          (c.put_spaced.ensures.output_after ∙ rw c.put_refused.ensures (line_written a.output.now (114 ∷ 101 ∷ 102 ∷ 117 ∷ 115 ∷ 101 ∷ 100 ∷ []) (a.number ∷ a.place ∷ []) fits)) }

@@ -20,7 +20,7 @@ use Rattle.file_calls.proofs.writing.write_file.Goals as goal
 
 pub returns-then-r-ne0 : goal.returns-then-r-ne0
 returns-then-r-ne0 c = let a = c.args in
-    let w = a.t1 in
+    let w = a.tree in
     let is = a.schedule.now in
     let b = a.file.now in
     let tree = c.tree_refusal_of-r.ensures ∙ refusal_words_same w in
@@ -30,7 +30,7 @@ returns-then-r-ne0 c = let a = c.args in
 
 pub returns-then-s-ne0 : goal.returns-then-s-ne0
 returns-then-s-ne0 c = let a = c.args in
-    let w = a.t1 in
+    let w = a.tree in
     let is = a.schedule.now in
     let b = a.file.now in
     let tree = c.tree_refusal_of-r.ensures ∙ refusal_words_same w in
@@ -43,7 +43,7 @@ returns-then-s-ne0 c = let a = c.args in
 pub put_tree-requires : goal.put_tree-requires
 unfolding tree_of
 put_tree-requires c = let a = c.args in
-    let w = a.t1 in
+    let w = a.tree in
     let is = a.schedule.now in
     let b = a.file.now in
     let tree = c.tree_refusal_of-r.ensures ∙ refusal_words_same w in
@@ -63,7 +63,7 @@ overflow_add-length c = let w = c.args.tree in
 pub returns-then-length-gt65536 : goal.returns-then-length-gt65536
 unfolding refusal
 returns-then-length-gt65536 c = let a = c.args in
-    let w = a.t1 in
+    let w = a.tree in
     let is = a.schedule.now in
     let b = a.file.now in
     let tree = c.tree_refusal_of-r.ensures ∙ refusal_words_same w in
@@ -78,7 +78,7 @@ returns-then-length-gt65536 c = let a = c.args in
 pub returns-then-file-length : goal.returns-then-file-length
 unfolding refusal
 returns-then-file-length c = let a = c.args in
-    let w = a.t1 in
+    let w = a.tree in
     let is = a.schedule.now in
     let b = a.file.now in
     let tree = c.tree_refusal_of-r.ensures ∙ refusal_words_same w in
@@ -95,7 +95,7 @@ returns-then-file-length c = let a = c.args in
 pub put_tree-after_tree-requires : goal.put_tree-after_tree-requires
 unfolding tree_of
 put_tree-after_tree-requires c = let a = c.args in
-    let w = a.t1 in
+    let w = a.tree in
     let is = a.schedule.now in
     let b = a.file.now in
     let tree = c.tree_refusal_of-r.ensures ∙ refusal_words_same w in
@@ -105,11 +105,11 @@ put_tree-after_tree-requires c = let a = c.args in
 
 pub put_schedule-requires : goal.put_schedule-requires
 put_schedule-requires c = let first = c.put_tree.ensures.value in
-    omega (arith, first, c.put_tree-after_tree.ensures.value, c.put_tree-after_tree.kept.0, c.if-file-length.false)
+    omega (arith, first, c.put_tree-after_tree.ensures.value, c.put_tree-after_tree.auto.buffer, c.if-file-length.false)
 
 pub returns : goal.returns
 returns c = let a = c.args in
-    let w = a.t1 in
+    let w = a.tree in
     let is = a.schedule.now in
     let b = a.file.now in
     let tree = c.tree_refusal_of-r.ensures ∙ refusal_words_same w in

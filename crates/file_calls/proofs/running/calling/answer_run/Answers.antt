@@ -31,7 +31,7 @@ returns-then-length-eq0 c = let a = c.args in
     let zero = eq-eqb _ _ c.if-reply-ne0.false in
     let n = c.number_index-n.ensures in
     let long : c.write_listing-length.result ≡ printed_length ls room = c.write_listing-length.ensures.value ∙ rw n in
-    let left : c.write_listing-length.last.1.1.0 ≡ printed ls a.output.now = c.write_listing-length.ensures.output_after ∙ rw n in
+    let left : c.write_listing-length.new.output ≡ printed ls a.output.now = c.write_listing-length.ensures.output_after ∙ rw n in
     let short = listing_turned_down _ _ room (sym long ∙ c.if-length-eq0.true) in
     record { value = rw (zero, listing_short ls room short); output_after = rw (zero, listing_short ls room short) (left ∙ printed_short ls _ short) }
 
@@ -49,6 +49,6 @@ returns c = let a = c.args in
     let zero = eq-eqb _ _ c.if-reply-ne0.false in
     let n = c.number_index-n.ensures in
     let long : c.write_listing-length.result ≡ printed_length ls room = c.write_listing-length.ensures.value ∙ rw n in
-    let left : c.write_listing-length.last.1.1.0 ≡ printed ls a.output.now = c.write_listing-length.ensures.output_after ∙ rw n in
+    let left : c.write_listing-length.new.output ≡ printed ls a.output.now = c.write_listing-length.ensures.output_after ∙ rw n in
     let fits = listing_taken ls room (λ e. c.if-length-eq0.false (long ∙ e)) in
     record { value = rw (zero, listing_fits ls room fits, long, length_fits ls room fits); output_after = rw (zero, listing_fits ls room fits) (left ∙ printed_fits ls _ fits) }

@@ -40,7 +40,7 @@ loop-d-preserved c = let a = c.args in
     (
       omega arith,
       omega arith,
-      c.put_domain-at.auto.0 ∙ c.loop-d.invariant.2,
+      c.put_domain-at.auto.buffer ∙ c.loop-d.invariant.2,
       omega (arith, c.put_domain-at.ensures.value, next.0, c.loop-d.invariant.3),
       rw (c.put_domain-at.ensures.buffer_after, c.put_domain-at.ensures.value) (sym next.1 ∙ c.loop-d.invariant.4),
     )

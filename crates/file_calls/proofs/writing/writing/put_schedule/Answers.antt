@@ -16,7 +16,7 @@ pub loop-k-preserved : goal.loop-k-preserved
 loop-k-preserved c = let less = c.loop-k-test.true in
     (
       omega arith,
-      c.put_two_bytes-at.auto.0 ∙ c.loop-k.invariant.1,
+      c.put_two_bytes-at.auto.buffer ∙ c.loop-k.invariant.1,
       omega (arith, c.put_two_bytes-at.ensures.value, c.loop-k.invariant.2),
       rw (c.put_two_bytes-at.ensures.buffer_after, c.put_two_bytes-at.ensures.value) (sym (entry_stored _ c.loop-k.k less c.loop-k.buffer c.loop-k.at) ∙ c.loop-k.invariant.3),
     )

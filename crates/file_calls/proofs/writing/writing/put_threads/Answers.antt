@@ -27,7 +27,7 @@ loop-i-preserved c = let a = c.args in
     let less = c.loop-i-test.true in
     let next = thread_stored (tree_in 0 a.threads [] [] a.homes.now).home a.threads c.loop-i.i c.loop-i.before (get_or a.homes.now c.loop-i.i 0) less (home_in 0 a.threads [] [] a.homes.now c.loop-i.i less) c.loop-i.buffer c.loop-i.at in (
       omega arith,
-      c.put_thread-at.auto.0 ∙ c.loop-i.invariant.1,
+      c.put_thread-at.auto.buffer ∙ c.loop-i.invariant.1,
       omega (arith, c.put_thread-at.ensures.value, next.0, c.loop-i.invariant.2),
       rw (c.put_thread-at.ensures.buffer_after, c.put_thread-at.ensures.value) (sym next.1 ∙ c.loop-i.invariant.3),
     )
