@@ -17,4 +17,4 @@ loop-k-preserved c = let a = c.args in
     (omega arith, one_marked (λ j. eqb (get_or a.kinds.now j 0) (get_or a.codes.now j 0 % 8)) _ _ _ c.loop-k.invariant.1 c.marked-mark.ensures)
 
 pub returns : goal.returns
-returns c = c.loop-k.invariant.1 z j (omega arith)
+returns c z j h = c.loop-k.invariant.1 z j (omega arith)

@@ -17,4 +17,4 @@ loop-k-preserved c = let a = c.args in
     (omega arith, one_compared (λ j. get_or a.domains.now j 0) (λ j. row_domain (get_or a.homes.now j 0) ((get_or a.codes.now j 0 / 8) % 16) (get_or a.codes.now j 0 / 128)) _ _ _ _ _ c.loop-k.invariant.1 refl c.domain_by.ensures c.marked-mark.ensures)
 
 pub returns : goal.returns
-returns c = c.loop-k.invariant.1 z j (omega arith)
+returns c z j h = c.loop-k.invariant.1 z j (omega arith)

@@ -14,4 +14,4 @@ pub loop-k-preserved : goal.loop-k-preserved
 loop-k-preserved c = (omega arith, one_larger c.args.threads.now _ _ _ c.loop-k.invariant.1 c.larger-most.ensures)
 
 pub returns : goal.returns
-returns c = c.loop-k.invariant.1 j (omega arith)
+returns c j h = c.loop-k.invariant.1 j (omega arith)
