@@ -1,12 +1,9 @@
 -- `journal_call::journals::any_difference` meets its contract: without a mark, all entries so far name the reported kinds.
-use mathlib.Core.Path.{◌≡◌}
-use Prim.Native.Nat.{◌-◌, ◌%◌, ◌≤◌}
+use Prim.Native.Nat.{◌%◌}
 use native.Mathlib.Omega.{arith}
 use lib.Dec.{eqb}
 use lib.ListN.{get_or}
-use Rattle.journal_call.specs.Kinds.{AllSameKinds}
 use Rattle.journal_call.proofs.Marking.{one_marked}
-use borrow.Author.Rules.{rules}
 use Rattle.journal_call.proofs.journals.any_difference.Goals as goal
 
 pub loop-k-init : goal.loop-k-init

@@ -8,7 +8,6 @@ use lib.ListN.{get_or}
 use Rattle.journal.specs.declared.Entry.TheVariants.{Named}
 use Rattle.journal.specs.Reading.{entry_size}
 use Rattle.journal.proofs.Facts.{whole_entry}
-use borrow.Author.Rules.{rules}
 use Rattle.journal_call.proofs.reader.read_entry.Goals as goal
 
 three : (m : ℕ) → m ≤ 3 → (m ≡ 0 → ⊥) → (m ≡ 1 → ⊥) → (m ≡ 2 → ⊥) → m ≡ 3

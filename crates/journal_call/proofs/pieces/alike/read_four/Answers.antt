@@ -1,7 +1,6 @@
 -- `journal_call::pieces::alike::read_four` meets its contract: four entries of one kind or the other, or none.
 use native.Mathlib.Omega.{arith}
 use Rattle.journal_call.proofs.reader.Stretching.{nothing, again}
-use borrow.Author.Rules.{rules}
 use Rattle.journal_call.proofs.pieces.alike.read_four.Goals as goal
 
 pub returns-then-known-before : goal.returns-then-known-before

@@ -1,7 +1,6 @@
 -- `journal_call::pieces::alike::read_many` meets its contract: sixteen are read if they fit, otherwise none.
 use native.Mathlib.Omega.{arith}
 use Rattle.journal_call.proofs.reader.Stretching.{nothing}
-use borrow.Author.Rules.{rules}
 use Rattle.journal_call.proofs.pieces.alike.read_many.Goals as goal
 
 pub returns-then-known-before : goal.returns-then-known-before
