@@ -2,4 +2,3 @@
 pub mod Marking
 pub mod Stepping
 pub mod Journaling
-pub mod Lending

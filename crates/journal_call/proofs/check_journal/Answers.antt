@@ -2,7 +2,6 @@
 use mathlib.Core.Path.{◌∙◌}
 use Rattle.refusals.proofs.Reading.{refusal_words_same}
 use Rattle.journal_call.proofs.Journaling.{tree_refused, tree_passes}
-use borrow.Author.Rules.{rules}
 use Rattle.journal_call.proofs.check_journal.Goals as goal
 
 pub returns-then-r-ne0 : goal.returns-then-r-ne0

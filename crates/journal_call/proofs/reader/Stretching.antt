@@ -12,16 +12,16 @@ use Rattle.journal.proofs.Facts.{at_end}
 
 -- CONSECUTIVE STRETCHES
 stretch_join :
-    {known p b e l e' l' : ℕ} {bs is ks js ms : List ℕ} → Stretch known bs p b is ks e l → Stretch known bs e l js ms e' l' →
+    {known : ℕ} {bs : List ℕ} {p b e l e' l' : ℕ} {is ks js ms : List ℕ} → Stretch known bs p b is ks e l → Stretch known bs e l js ms e' l' →
     Stretch known bs p b (is ++ js) (ks ++ ms) e' l'
 stretch_join none_read r = r
 stretch_join (one_read g j s) r = one_read g j (stretch_join s r)
 
-pub as_many : {known p b e l : ℕ} {bs is ks : List ℕ} → Stretch known bs p b is ks e l → length ks ≡ length is
+pub as_many : {known : ℕ} {bs : List ℕ} {p b e l : ℕ} {is ks : List ℕ} → Stretch known bs p b is ks e l → length ks ≡ length is
 as_many none_read = refl
 as_many (one_read g j s) = ap suc (as_many s)
 
-still : {known p b e l : ℕ} {bs is ks : List ℕ} → Stretch known bs p b is ks e l → length is ≡ 0 → (is ≡ []) × (ks ≡ []) × (e ≡ p) × (l ≡ b)
+still : {known : ℕ} {bs : List ℕ} {p b e l : ℕ} {is ks : List ℕ} → Stretch known bs p b is ks e l → length is ≡ 0 → (is ≡ []) × (ks ≡ []) × (e ≡ p) × (l ≡ b)
 still none_read z = (refl, refl, refl, refl)
 still (one_read g j s) z = absurd (omega arith)
 

@@ -1,12 +1,9 @@
 -- `journal_call::journals::any_difference` meets its contract: without a mark, all entries so far name the reported kinds.
-use mathlib.Core.Path.{◌≡◌}
-use Prim.Native.Nat.{◌-◌, ◌%◌, ◌≤◌}
+use Prim.Native.Nat.{◌%◌}
 use native.Mathlib.Omega.{arith}
 use lib.Dec.{eqb}
 use lib.ListN.{get_or}
-use Rattle.journal_call.specs.Kinds.{AllSameKinds}
 use Rattle.journal_call.proofs.Marking.{one_marked}
-use borrow.Author.Rules.{rules}
 use Rattle.journal_call.proofs.journals.any_difference.Goals as goal
 
 pub loop-k-init : goal.loop-k-init
@@ -17,4 +14,4 @@ loop-k-preserved c = let a = c.args in
     (omega arith, one_marked (λ j. eqb (get_or a.kinds.now j 0) (get_or a.codes.now j 0 % 8)) _ _ _ c.loop-k.invariant.1 c.marked-mark.ensures)
 
 pub returns : goal.returns
-returns c = c.loop-k.invariant.1 z j (omega arith)
+returns c z j h = c.loop-k.invariant.1 z j (omega arith)

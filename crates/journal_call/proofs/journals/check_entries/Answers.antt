@@ -1,7 +1,6 @@
 -- `journal_call::journals::check_entries` meets its contract: going through the journal from a fresh lock gives the answer.
 use mathlib.Core.Path.{◌∙◌}
 use Rattle.journal_call.proofs.Journaling.{start}
-use borrow.Author.Rules.{rules}
 use Rattle.journal_call.proofs.journals.check_entries.Goals as goal
 
 pub walk_entries-last-requires : goal.walk_entries-last-requires

@@ -1,20 +1,13 @@
 -- `journal_call::journals::check_piece` meets its contract: the rest of the journal from this piece on, or from the next one on, decides the answer.
-use mathlib.Core.Path.{◌≡◌, sym, subst}
+use mathlib.Core.Path.{sym, subst}
 use mathlib.Core.Bool.{Bool}
-use Prim.Native.Nat.{◌≤◌, ◌<◌}
+use Prim.Native.Nat.{◌≤◌}
 use native.Mathlib.Omega.{arith}
 use lib.Dec.{T}
 use lib.ListN.{length}
 use Rattle.journal_call.proofs.Journaling.{runs, moves, differs, stops, ends, turn, stopping}
 use borrow.Author.Rules.{rules}
 use Rattle.journal_call.proofs.journals.check_piece.Goals as goal
-
--- the buffer for the reported steps is long enough, and a piece is full if it stops for no other reason
-room : (c : tie.After-run-piece-arg13) → (read_of c).read-piece.result.count ≤ length (start_of (read_of c)).args.codes.now
-room c = search rules
-
-full : (c : tie.After-read-piece) → c.read-piece.result.number ≡ 0 → c.read-piece.result.position < length (start_of c).args.journal.now → 1024 ≤ c.read-piece.result.count
-full c z h = c.read-piece.ensures.full z h 1024 (search rules) (search rules)
 
 pub run_piece-requires : goal.run_piece-requires
 run_piece-requires c = let g = c.requires in
@@ -23,28 +16,32 @@ run_piece-requires c = let g = c.requires in
 
 pub returns-then-same-count : goal.returns-then-same-count
 returns-then-same-count c = let g = c.requires in
+    let room : c.read_piece-piece.result.count ≤ length c.args.codes.now = search rules in
     stopping _ _ _ _ _ _ _ _ _ c.stopped_by.ensures
-    (differs _ _ g.passes _ _ _ g _ _ _ c.read_piece-piece.ensures _ _ c.run_piece.ensures.codes_after (room c) _ c.first_other_kind-same.ensures c.if-same-count.true _ c.position_after-place.ensures)
+    (differs _ _ g.passes _ _ _ g _ _ _ c.read_piece-piece.ensures _ _ c.run_piece.ensures.codes_after room _ c.first_other_kind-same.ensures c.if-same-count.true _ c.position_after-place.ensures)
 
 pub returns-then-piece-ne0 : goal.returns-then-piece-ne0
 returns-then-piece-ne0 c = let g = c.requires in
+    let room : c.read_piece-piece.result.count ≤ length c.args.codes.now = search rules in
     stopping _ _ _ _ _ _ _ _ _ c.stopped_by-then-piece-ne0.ensures
-    (stops _ _ g.passes _ _ _ g _ _ _ c.read_piece-piece.ensures _ _ c.run_piece.ensures.codes_after (room c) _ c.first_other_kind-same.ensures c.if-same-count.false c.if-piece-ne0.true)
+    (stops _ _ g.passes _ _ _ g _ _ _ c.read_piece-piece.ensures _ _ c.run_piece.ensures.codes_after room _ c.first_other_kind-same.ensures c.if-same-count.false c.if-piece-ne0.true)
 
 pub returns-then-journal-piece : goal.returns-then-journal-piece
 returns-then-journal-piece c = let g = c.requires in
+    let room : c.read_piece-piece.result.count ≤ length c.args.codes.now = search rules in
     stopping _ _ _ _ _ _ _ _ _ c.stopped_by-then-journal-piece.ensures
-    (ends _ _ g.passes _ _ _ g _ _ _ c.read_piece-piece.ensures _ _ c.run_piece.ensures.codes_after (room c) _ c.first_other_kind-same.ensures c.if-same-count.false c.if-journal-piece.true)
+    (ends _ _ g.passes _ _ _ g _ _ _ c.read_piece-piece.ensures _ _ c.run_piece.ensures.codes_after room _ c.first_other_kind-same.ensures c.if-same-count.false c.if-journal-piece.true)
 
 pub returns : goal.returns
 returns c = let g = c.requires in
-    let many = full c c.if-piece-ne0.false c.if-journal-piece.false in
+    let room : c.read_piece-piece.result.count ≤ length c.args.codes.now = search rules in
+    let many : 1024 ≤ c.read_piece-piece.result.count = c.read_piece-piece.ensures.full c.if-piece-ne0.false c.if-journal-piece.false 1024 (search rules) (search rules) in
     let further = moves _ _ g.passes _ _ _ g _ _ _ c.read_piece-piece.ensures in
     record {
       goes = λ _. (
         omega (arith, further, many),
         omega (arith, c.if-journal-piece.false),
-        turn _ _ g.passes _ _ _ g _ _ _ c.read_piece-piece.ensures _ _ c.run_piece.ensures.codes_after (room c) _ c.first_other_kind-same.ensures c.if-same-count.false _ c.run_piece.ensures.after_after,
+        turn _ _ g.passes _ _ _ g _ _ _ c.read_piece-piece.ensures _ _ c.run_piece.ensures.codes_after room _ c.first_other_kind-same.ensures c.if-same-count.false _ c.run_piece.ensures.after_after,
       );
       ends = λ z. absurd (subst (λ (b : Bool). T b) (sym z) tt);
     }

@@ -1,10 +1,7 @@
 -- `journal_call::journals::first_difference` meets its contract: all entries so far name the reported kinds.
-use Prim.Native.Nat.{◌-◌}
 use native.Mathlib.Omega.{arith}
 use borrow.Author.Tests.{eq-eqb, ne_eqb}
-use Rattle.refusals.proofs.Scanning.{Scanned, scan_begun, scan_goes_on, scan_found, scan_ended}
-use Rattle.journal_call.specs.Kinds.{other_kind}
-use borrow.Author.Rules.{rules}
+use Rattle.refusals.proofs.Scanning.{scan_goes_on, scan_found}
 use Rattle.journal_call.proofs.journals.first_difference.Goals as goal
 
 pub returns-then-kind-codes : goal.returns-then-kind-codes

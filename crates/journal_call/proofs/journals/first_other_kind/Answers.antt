@@ -1,6 +1,5 @@
 -- `journal_call::journals::first_other_kind` meets its contract: no entry differs, or the first that does is searched.
 use native.Mathlib.Omega.{arith}
-use borrow.Author.Rules.{rules}
 use Rattle.journal_call.proofs.journals.first_other_kind.Goals as goal
 
 pub returns-then-mark-eq0 : goal.returns-then-mark-eq0

@@ -9,7 +9,6 @@ use Rattle.model.specs.Counters.{lock_state, fresh_counters}
 use Rattle.model.specs.Refusals.{first_refusal, run_tests_before_19}
 use Rattle.refusals.specs.Arrays.{lent_state}
 use Rattle.lock.specs.Steps.Running.{codes_front}
-use borrow.Author.Rules.{rules}
 use Rattle.journal_call.proofs.journals.run_piece.Goals as goal
 
 pub run_lent-requires : goal.run_lent-requires

@@ -1,11 +1,8 @@
 -- `journal_call::pieces::read_piece` meets its contract: four entries at once or up to thirty-two one by one, until the arrays are full or reading stops.
-use mathlib.Core.Path.{◌∙◌}
-use Prim.Native.Nat.{◌-◌}
 use native.Mathlib.Omega.{arith}
-use Rattle.journal_call.specs.Reader.Stretches.{ReadOn, for_room}
+use Rattle.journal_call.specs.Reader.Stretches.{for_room}
 use Rattle.journal_call.proofs.reader.Stretching.{nothing, more, again, threads_long, kinds_long}
 use Rattle.journal_call.proofs.pieces.Fronts.{piece}
-use borrow.Author.Rules.{rules}
 use Rattle.journal_call.proofs.pieces.read_piece.Goals as goal
 
 pub loop-count-init : goal.loop-count-init
@@ -26,9 +23,8 @@ block_end-end-requires c = c.loop-count-test.true
 
 pub read_next-some-requires : goal.read_next-some-requires
 read_next-some-requires c = let inv = c.loop-count.invariant in
-    let four = c.read_alike-four.kept in
     let room = c.smaller-room.ensures in
-    record { from_le_end = (omega (arith, c.block_end-end.ensures.lower_bound.0), omega (arith, c.block_end-end.ensures.lower_bound.1)); end_in_bounds = omega (arith, c.block_end-end.ensures.upper_bound, room.within_first, threads_long _ _ _ _ _ _ _ _ _ _ _ _ (inv), four.1.1.1.1.0); end_in_bounds_2 = omega (arith, c.block_end-end.ensures.upper_bound, room.within_second, kinds_long _ _ _ _ _ _ _ _ _ _ _ _ (inv), four.1.1.1.1.1.0) }
+    record { from_le_end = (omega (arith, c.block_end-end.ensures.lower_bound.0), omega (arith, c.block_end-end.ensures.lower_bound.1)); end_in_bounds = omega (arith, c.block_end-end.ensures.upper_bound, room.within_first, threads_long _ _ _ _ _ _ _ _ _ _ _ _ (inv), c.read_alike-four.auto.threads); end_in_bounds_2 = omega (arith, c.block_end-end.ensures.upper_bound, room.within_second, kinds_long _ _ _ _ _ _ _ _ _ _ _ _ (inv), c.read_alike-four.auto.kinds) }
 
 pub returns-then-some-ne0 : goal.returns-then-some-ne0
 returns-then-some-ne0 c = piece _ _ _ _ _ _ _ _ c.read_next-some.result

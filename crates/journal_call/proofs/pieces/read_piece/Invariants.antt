@@ -1,11 +1,6 @@
 -- `journal_call::pieces::read_piece` meets its contract: four entries at once or up to thirty-two one by one, until the arrays are full or reading stops.
-use mathlib.Core.Path.{◌∙◌}
 use Prim.Native.Nat.{◌-◌}
-use native.Mathlib.Omega.{arith}
-use Rattle.journal_call.specs.Reader.Stretches.{ReadOn, for_room}
-use Rattle.journal_call.proofs.reader.Stretching.{nothing, more, again, threads_long, kinds_long}
-use Rattle.journal_call.proofs.pieces.Fronts.{piece}
-use borrow.Author.Rules.{rules}
+use Rattle.journal_call.specs.Reader.Stretches.{ReadOn}
 use Rattle.journal_call.proofs.pieces.read_piece.Given as goal
 
 abbrev pub invariant-loop-count : goal.invariant-loop-count

@@ -1,8 +1,7 @@
 -- `journal_call::reader::position_after` meets its contract: the position after the entries left is the same at every turn.
 use mathlib.Core.Path.{◌≡◌, sym, ap, ◌∙◌}
-use Prim.Native.Nat.{suc, ◌+◌, ◌-◌, ◌≤◌}
+use Prim.Native.Nat.{suc, ◌+◌, ◌-◌}
 use native.Mathlib.Omega.{arith}
-use borrow.Author.Rules.{rules}
 use Rattle.journal_call.specs.Reader.Stretches.{position_after}
 use Rattle.journal_call.proofs.reader.Stretching.{position_next, position_broken, position_end, position_none}
 use Rattle.journal_call.proofs.reader.position_after.Goals as goal

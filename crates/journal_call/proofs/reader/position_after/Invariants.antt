@@ -1,10 +1,7 @@
 -- `journal_call::reader::position_after` meets its contract: the position after the entries left is the same at every turn.
-use mathlib.Core.Path.{◌≡◌, sym, ap, ◌∙◌}
-use Prim.Native.Nat.{suc, ◌+◌, ◌-◌, ◌≤◌}
-use native.Mathlib.Omega.{arith}
-use borrow.Author.Rules.{rules}
+use mathlib.Core.Path.{◌≡◌}
+use Prim.Native.Nat.{◌-◌, ◌≤◌}
 use Rattle.journal_call.specs.Reader.Stretches.{position_after}
-use Rattle.journal_call.proofs.reader.Stretching.{position_next, position_broken, position_end, position_none}
 use Rattle.journal_call.proofs.reader.position_after.Given as goal
 
 abbrev pub invariant-loop-k : goal.invariant-loop-k

@@ -8,7 +8,6 @@ use lib.ListN.{get_or}
 use Rattle.journal.specs.declared.Entry.TheVariants.{Named}
 use Rattle.journal.specs.Reading.{entry_size}
 use Rattle.journal.proofs.Facts.{whole_entry}
-use borrow.Author.Rules.{rules}
 use Rattle.journal_call.proofs.reader.read_entry.Goals as goal
 
 three : (m : ℕ) → m ≤ 3 → (m ≡ 0 → ⊥) → (m ≡ 1 → ⊥) → (m ≡ 2 → ⊥) → m ≡ 3
@@ -30,38 +29,38 @@ returns-then-journal-position-ge4 c = let a = c.args in
     c.whole_entry.ensures ∙ sym (whole_entry a.journal.now a.position a.before c.byte_index.result c.if-journal-position.false (sym c.byte_index.ensures.0) few (omega (arith, few, c.if-journal-position-ge4.true)))
 
 pub returns-then-journal-position-2 : goal.returns-then-journal-position-2
-returns-then-journal-position-2 c = rw (lt-ltb _ _ c.if-journal-position.false, le-ltb _ _ c.if-bits-gt3.false, ← c.type_size.ensures, lt-ltb _ _ c.if-journal-position-2.true)
+returns-then-journal-position-2 c = rw (lt-ltb _ _ c.if-journal-position.false, le-ltb _ _ c.if-bits-gt3.false, ← c.size_of.ensures, lt-ltb _ _ c.if-journal-position-2.true)
 
 pub bounds-journal-position-in-1-2 : goal.bounds-journal-position-in-1-2
-bounds-journal-position-in-1-2 c = omega (arith, c.type_size.ensures ∙ ap entry_size c.in-1.is, c.if-journal-position-2.false)
+bounds-journal-position-in-1-2 c = omega (arith, c.size_of.ensures ∙ ap entry_size c.in-1.is, c.if-journal-position-2.false)
 
 pub bounds-journal-position-in_default-3 : goal.bounds-journal-position-in_default-3
 bounds-journal-position-in_default-3 c = let a = c.args in
-    let bits = three (get_or a.journal.now a.position 0) c.if-bits-gt3.false c.in_default.rest.0.0.1 c.in_default.rest.0.1 c.in_default.rest.1 in
-    let size = c.type_size.ensures ∙ ap entry_size bits in
+    let bits = three (get_or a.journal.now a.position 0) c.if-bits-gt3.false c.in_default.in_default-own.rest.0.0.1 c.in_default.in_default-own.rest.0.1 c.in_default.in_default-own.rest.1 in
+    let size = c.size_of.ensures ∙ ap entry_size bits in
     omega (arith, size, c.if-journal-position-2.false)
 
 pub returns-in-0 : goal.returns-in-0
 returns-in-0 c = let a = c.args in
-    let size = c.type_size.ensures ∙ ap entry_size c.in-0.is in
+    let size = c.size_of.ensures ∙ ap entry_size c.in-0.is in
     sym (whole_entry a.journal.now a.position a.before 0 c.if-journal-position.false c.in-0.is (lit≤ tt) (omega (arith, size, c.if-journal-position-2.false)))
 
 pub returns-in-1 : goal.returns-in-1
 returns-in-1 c = let a = c.args in
     let bits = c.in-1.is in
-    let size = c.type_size.ensures ∙ ap entry_size bits in
+    let size = c.size_of.ensures ∙ ap entry_size bits in
     ap (λ (w : ℕ). Named w 0 (a.position + 3)) c.two_bytes.ensures
     ∙ sym (whole_entry a.journal.now a.position a.before 1 c.if-journal-position.false bits (lit≤ tt) (omega (arith, size, c.if-journal-position-2.false)))
 
 pub returns-in-2 : goal.returns-in-2
 returns-in-2 c = let a = c.args in
     let bits = c.in-2.is in
-    let size = c.type_size.ensures ∙ ap entry_size bits in
+    let size = c.size_of.ensures ∙ ap entry_size bits in
     sym (whole_entry a.journal.now a.position a.before 2 c.if-journal-position.false bits (lit≤ tt) (omega (arith, size, c.if-journal-position-2.false)))
 
 pub returns-in_default : goal.returns-in_default
 returns-in_default c = let a = c.args in
-    let bits = three (get_or a.journal.now a.position 0) c.if-bits-gt3.false c.in_default.rest.0.0.1 c.in_default.rest.0.1 c.in_default.rest.1 in
-    let size = c.type_size.ensures ∙ ap entry_size bits in
+    let bits = three (get_or a.journal.now a.position 0) c.if-bits-gt3.false c.in_default.in_default-own.rest.0.0.1 c.in_default.in_default-own.rest.0.1 c.in_default.in_default-own.rest.1 in
+    let size = c.size_of.ensures ∙ ap entry_size bits in
     ap (λ (w : ℕ). Named w (get_or a.journal.now (a.position + 3) 0) (a.position + 4)) c.two_bytes-in_default.ensures
     ∙ sym (whole_entry a.journal.now a.position a.before 3 c.if-journal-position.false bits (lit≤ tt) (omega (arith, size, c.if-journal-position-2.false)))

@@ -1,10 +1,6 @@
 -- `journal_call::reader::read_some` meets its contract: entries are read in order.
-use mathlib.Core.Path.{sym, ◌∙◌}
 use Prim.Native.Nat.{◌-◌, ◌≤◌}
-use native.Mathlib.Omega.{arith}
 use Rattle.journal_call.specs.Reader.Stretches.{ReadOn}
-use Rattle.journal_call.proofs.reader.Stretching.{nothing, one, more, threads_long, kinds_long, ended, broken, unknown, reached}
-use borrow.Author.Rules.{rules}
 use Rattle.journal_call.proofs.reader.read_some.Given as goal
 
 abbrev pub invariant-loop-count : goal.invariant-loop-count

@@ -1,7 +1,6 @@
 -- `journal_call::reader::thread_by` meets its contract: one of the two products is 0.
 use native.Mathlib.Omega.{arith}
 use Rattle.journal_call.proofs.reader.Products.{by_product, by_product_small}
-use borrow.Author.Rules.{rules}
 use Rattle.journal_call.proofs.reader.thread_by.Goals as goal
 
 pub overflow_mul-result : goal.overflow_mul-result

@@ -2,7 +2,6 @@
 use mathlib.Core.Path.{refl}
 use Rattle.lock.proofs.steps.Typing.{typed}
 use Rattle.journal_call.proofs.step_check.Answering.{refused_answered, ready, kinds_long, domains_long, steps_answered}
-use borrow.Author.Rules.{rules}
 use Rattle.journal_call.proofs.step_check.check_steps.Goals as goal
 
 pub returns-then-r-ne0 : goal.returns-then-r-ne0

@@ -1,7 +1,6 @@
 -- `journal_call::step_check::early_refusal_of` meets its contract: the state's check refuses, or 30 does, or nothing.
 use Rattle.model.specs.Refusals.{refusal}
 use Rattle.journal_call.proofs.step_check.Answering.{state_answered, kinds_answered, domains_answered, lengths_answered}
-use borrow.Author.Rules.{rules}
 use Rattle.journal_call.proofs.step_check.early_refusal_of.Goals as goal
 
 pub returns-then-r-ne0 : goal.returns-then-r-ne0

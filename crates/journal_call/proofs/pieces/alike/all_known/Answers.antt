@@ -1,6 +1,5 @@
 -- `journal_call::pieces::alike::all_known` meets its contract: it returns true only if each of the four is below.
 use mathlib.Core.Bool.{false≢true}
-use borrow.Author.Rules.{rules}
 use Rattle.journal_call.proofs.pieces.alike.all_known.Goals as goal
 
 pub returns-then-known-a : goal.returns-then-known-a

@@ -3,7 +3,6 @@ use mathlib.Core.Bool.{false≢true}
 use Prim.Native.Nat.{◌-◌}
 use native.Mathlib.Omega.{arith}
 use borrow.Author.Tests.{leb-true}
-use borrow.Author.Rules.{rules}
 use Rattle.journal_call.proofs.pieces.alike.fits.Goals as goal
 
 pub returns-then-bytes-position : goal.returns-then-bytes-position

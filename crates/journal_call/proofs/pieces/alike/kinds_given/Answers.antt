@@ -2,12 +2,11 @@
 use mathlib.Core.Path.{◌≡◌}
 use mathlib.Core.Bool.{false≢true}
 use mathlib.Core.List.{List}
-use Prim.Native.Nat.{ℕ, ◌+◌, ◌*◌, ◌-◌, ◌≤◌}
+use Prim.Native.Nat.{ℕ, ◌+◌, ◌*◌}
 use native.Mathlib.Omega.{arith}
 use native.Mathlib.Decide.{ℕ_discrete}
 use lib.ListN.{get_or}
 use Rattle.journal_call.specs.Pieces.Pieces.{KindsGiven}
-use borrow.Author.Rules.{rules}
 use Rattle.journal_call.proofs.pieces.alike.kinds_given.Goals as goal
 
 one_more : (bs : List ℕ) (p n : ℕ) → KindsGiven n bs p → get_or bs (p + 2 * n) 0 ≡ 2 → KindsGiven (n + 1) bs p

@@ -1,13 +1,6 @@
 -- `journal_call::pieces::alike::kinds_given` meets its contract: it continues only after a bit map for a kind only.
-use mathlib.Core.Path.{◌≡◌}
-use mathlib.Core.Bool.{false≢true}
-use mathlib.Core.List.{List}
-use Prim.Native.Nat.{ℕ, ◌+◌, ◌*◌, ◌-◌, ◌≤◌}
-use native.Mathlib.Omega.{arith}
-use native.Mathlib.Decide.{ℕ_discrete}
-use lib.ListN.{get_or}
+use Prim.Native.Nat.{◌-◌, ◌≤◌}
 use Rattle.journal_call.specs.Pieces.Pieces.{KindsGiven}
-use borrow.Author.Rules.{rules}
 use Rattle.journal_call.proofs.pieces.alike.kinds_given.Given as goal
 
 abbrev pub invariant-loop-k : goal.invariant-loop-k

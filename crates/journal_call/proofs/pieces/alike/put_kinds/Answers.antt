@@ -1,9 +1,6 @@
 -- `journal_call::pieces::alike::put_kinds` meets its contract: four stores in order.
-use native.Mathlib.Omega.{arith}
-use lib.ListN.{length-set}
 use mathlib.Core.List.{[], ◌∷◌}
 use Rattle.model.proofs.Storing.{stored}
-use borrow.Author.Rules.{rules}
 use Rattle.journal_call.proofs.pieces.alike.put_kinds.Goals as goal
 
 pub returns : goal.returns

@@ -1,7 +1,6 @@
 -- `journal_call::pieces::alike::read_alike` meets its contract: sixteen entries, or the result for four.
 use native.Mathlib.Omega.{arith}
 use Rattle.journal_call.proofs.reader.Stretching.{again}
-use borrow.Author.Rules.{rules}
 use Rattle.journal_call.proofs.pieces.alike.read_alike.Goals as goal
 
 pub returns : goal.returns

@@ -1,14 +1,6 @@
 -- `journal_call::pieces::alike::read_sixteen` meets its contract: each entry has the thread before and the kind after its bit map.
-use mathlib.Core.Path.{◌≡◌, refl, sym, ap}
 use Prim.Native.Nat.{◌+◌, ◌*◌, ◌-◌, ◌≤◌}
-use native.Mathlib.Omega.{arith}
-use lib.Dec.{lit≤}
-use lib.ListN.{get_or}
 use Rattle.journal_call.specs.Reader.Stretches.{ReadOn}
-use Rattle.journal_call.proofs.reader.Stretching.{nothing, one, more, threads_long, kinds_long}
-use Rattle.journal_call.proofs.pieces.Sizes.{entry_read}
-use borrow.Author.Tests.{not-false}
-use borrow.Author.Rules.{rules}
 use Rattle.journal_call.proofs.pieces.alike.read_sixteen.Given as goal
 
 abbrev pub invariant-loop-k : goal.invariant-loop-k

@@ -1,13 +1,11 @@
 -- `journal_call::pieces::blocks::read_block` meets its contract: each entry is complete, since no entry has more than four bytes, and its size is in the table.
 use mathlib.Core.Path.{◌≡◌, refl, sym, ap, ◌∙◌}
-use Prim.Native.Nat.{◌+◌, ◌*◌, ◌-◌, ◌≤◌, ◌<◌}
+use Prim.Native.Nat.{◌+◌, ◌≤◌, ◌<◌}
 use native.Mathlib.Omega.{arith}
 use lib.ListN.{length}
 use Rattle.journal.specs.Reading.{entry_size}
-use Rattle.journal_call.specs.Reader.Stretches.{ReadOn}
 use Rattle.journal_call.proofs.reader.Stretching.{nothing, one, more, threads_long, kinds_long, broken, unknown, reached}
 use Rattle.journal_call.proofs.pieces.Sizes.{entry_read, no_entry}
-use borrow.Author.Rules.{rules}
 use Rattle.journal_call.proofs.pieces.blocks.read_block.Goals as goal
 
 pub sizes_from-sizes-requires : goal.sizes_from-sizes-requires
@@ -24,14 +22,13 @@ pub bounds-journal-at : goal.bounds-journal-at
 bounds-journal-at c = omega (arith, c.loop-count.invariant, c.loop-count-test.true, c.requires)
 
 pub returns-then-bits-gt3 : goal.returns-then-bits-gt3
-returns-then-bits-gt3 c = rw c.stopped.ensures (c.loop-count.invariant.2, broken _ _ _ _ _ _ (no_entry c.args.journal.now (c.args.position + c.loop-count.passed) c.loop-count.last _ (omega (arith, c.loop-count.invariant, c.loop-count-test.true, c.requires)) refl c.if-bits-gt3.true))
+returns-then-bits-gt3 c = rw c.stopped.ensures (record { read_on = c.loop-count.invariant.2; stopped_before = broken _ _ _ _ _ _ (no_entry c.args.journal.now (c.args.position + c.loop-count.passed) c.loop-count.last _ (omega (arith, c.loop-count.invariant, c.loop-count-test.true, c.requires)) refl c.if-bits-gt3.true) })
 
 pub thread_at-thread-requires : goal.thread_at-thread-requires
 thread_at-thread-requires c = record { bits_bound = omega (arith, c.if-bits-gt3.false, c.byte_index-map.ensures.0); position_in_bounds = omega (arith, c.loop-count.invariant, c.loop-count-test.true, c.requires) }
 
 pub returns-then-known-thread : goal.returns-then-known-thread
-returns-then-known-thread c = rw c.stopped-then-known-thread.ensures
-    (c.loop-count.invariant.2, unknown _ _ _ _ _ _ _ _ _ (entry_read c.args.journal.now (c.args.position + c.loop-count.passed) c.loop-count.last c.byte_index-map.result (omega (arith, c.loop-count.invariant, c.loop-count-test.true, c.requires)) c.byte_index-map.ensures.0 _ _ _ (omega (arith, c.if-bits-gt3.false, c.byte_index-map.ensures.0)) c.thread_at-thread.ensures refl refl) c.if-known-thread.true)
+returns-then-known-thread c = rw c.stopped-then-known-thread.ensures (record { read_on = c.loop-count.invariant.2; stopped_before = unknown _ _ _ _ _ _ _ _ _ (entry_read c.args.journal.now (c.args.position + c.loop-count.passed) c.loop-count.last c.byte_index-map.result (omega (arith, c.loop-count.invariant, c.loop-count-test.true, c.requires)) c.byte_index-map.ensures.0 _ _ _ (omega (arith, c.if-bits-gt3.false, c.byte_index-map.ensures.0)) c.thread_at-thread.ensures refl refl) c.if-known-thread.true })
 
 pub bounds-threads-count : goal.bounds-threads-count
 bounds-threads-count c = omega (arith, c.loop-count-test.true, threads_long _ _ _ _ _ _ _ _ _ _ _ _ c.loop-count.invariant.2, c.requires)
@@ -70,4 +67,4 @@ pub overflow_add-position : goal.overflow_add-position
 overflow_add-position c = omega (arith, c.loop-count.invariant, c.requires)
 
 pub returns : goal.returns
-returns c = rw c.stopped-2.ensures (c.loop-count.invariant.2, reached _ _ _ _ _ _ c.loop-count-test.false)
+returns c = rw c.stopped-2.ensures (record { read_on = c.loop-count.invariant.2; stopped_before = reached _ _ _ _ _ _ c.loop-count-test.false })

@@ -1,13 +1,6 @@
 -- `journal_call::pieces::blocks::read_block` meets its contract: each entry is complete, since no entry has more than four bytes, and its size is in the table.
-use mathlib.Core.Path.{◌≡◌, refl, sym, ap, ◌∙◌}
-use Prim.Native.Nat.{◌+◌, ◌*◌, ◌-◌, ◌≤◌, ◌<◌}
-use native.Mathlib.Omega.{arith}
-use lib.ListN.{length}
-use Rattle.journal.specs.Reading.{entry_size}
+use Prim.Native.Nat.{◌+◌, ◌*◌, ◌-◌, ◌≤◌}
 use Rattle.journal_call.specs.Reader.Stretches.{ReadOn}
-use Rattle.journal_call.proofs.reader.Stretching.{nothing, one, more, threads_long, kinds_long, broken, unknown, reached}
-use Rattle.journal_call.proofs.pieces.Sizes.{entry_read, no_entry}
-use borrow.Author.Rules.{rules}
 use Rattle.journal_call.proofs.pieces.blocks.read_block.Given as goal
 
 abbrev pub invariant-loop-count : goal.invariant-loop-count

@@ -1,10 +1,6 @@
 -- `journal_call::pieces::blocks::sizes_from` meets its contract: the sizes for the bytes so far are in the table.
-use mathlib.Core.Path.{◌≡◌, refl}
 use Prim.Native.Nat.{◌-◌, ◌≤◌}
-use native.Mathlib.Omega.{arith}
 use Rattle.journal_call.specs.Pieces.Pieces.{SizesFrom}
-use Rattle.journal_call.proofs.pieces.Sizes.{no_size, one_size}
-use borrow.Author.Rules.{rules}
 use Rattle.journal_call.proofs.pieces.blocks.sizes_from.Given as goal
 
 abbrev pub invariant-loop-k : goal.invariant-loop-k

@@ -1,12 +1,7 @@
 -- `journal_call::step_check::comparison::any_other_domain` meets its contract: without a mark, all domains so far are those of the steps.
-use mathlib.Core.Path.{◌≡◌, refl}
-use Prim.Native.Nat.{◌-◌, ◌/◌, ◌%◌, ◌≤◌}
-use native.Mathlib.Omega.{arith}
-use lib.ListN.{get_or}
-use Rattle.rows.specs.Common.Standing.{row_domain}
+use mathlib.Core.Path.{◌≡◌}
+use Prim.Native.Nat.{◌-◌, ◌≤◌}
 use Rattle.journal_call.specs.StepCheck.Stretches.{AllSameDomains}
-use Rattle.journal_call.proofs.Marking.{one_compared}
-use borrow.Author.Rules.{rules}
 use Rattle.journal_call.proofs.step_check.comparison.any_other_domain.Given as goal
 
 abbrev pub invariant-loop-k : goal.invariant-loop-k

@@ -1,12 +1,7 @@
 -- `journal_call::step_check::comparison::any_other_kind` meets its contract: without a mark, all kinds so far are the reported ones.
 use mathlib.Core.Path.{◌≡◌}
-use Prim.Native.Nat.{◌-◌, ◌%◌, ◌≤◌}
-use native.Mathlib.Omega.{arith}
-use lib.Dec.{eqb}
-use lib.ListN.{get_or}
+use Prim.Native.Nat.{◌-◌, ◌≤◌}
 use Rattle.journal_call.specs.Kinds.{AllSameKinds}
-use Rattle.journal_call.proofs.Marking.{one_marked}
-use borrow.Author.Rules.{rules}
 use Rattle.journal_call.proofs.step_check.comparison.any_other_kind.Given as goal
 
 abbrev pub invariant-loop-k : goal.invariant-loop-k

@@ -1,6 +1,5 @@
 -- `journal_call::step_check::comparison::first_difference` meets its contract: all are the same, or the first that differs is searched.
 use native.Mathlib.Omega.{arith}
-use borrow.Author.Rules.{rules}
 use Rattle.journal_call.proofs.step_check.comparison.first_difference.Goals as goal
 
 pub returns-then-all_same : goal.returns-then-all_same

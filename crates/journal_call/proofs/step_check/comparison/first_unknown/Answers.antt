@@ -1,7 +1,6 @@
 -- `journal_call::step_check::comparison::first_unknown` meets its contract: the largest thread is in the tree, or the first that is not is searched.
 use native.Mathlib.Omega.{arith}
 use Rattle.journal_call.proofs.step_check.Comparing.{known_below}
-use borrow.Author.Rules.{rules}
 use Rattle.journal_call.proofs.step_check.comparison.first_unknown.Goals as goal
 
 pub returns-then-word_number-known : goal.returns-then-word_number-known

@@ -1,10 +1,6 @@
 -- `journal_call::step_check::comparison::homes_of` meets its contract: the homes of the threads so far are in the table.
-use mathlib.Core.Path.{◌≡◌, refl}
 use Prim.Native.Nat.{◌-◌, ◌≤◌}
-use native.Mathlib.Omega.{arith}
 use Rattle.journal_call.specs.StepCheck.Stretches.{HomesOf}
-use Rattle.journal_call.proofs.step_check.Comparing.{no_home, one_home}
-use borrow.Author.Rules.{rules}
 use Rattle.journal_call.proofs.step_check.comparison.homes_of.Given as goal
 
 abbrev pub invariant-loop-k : goal.invariant-loop-k

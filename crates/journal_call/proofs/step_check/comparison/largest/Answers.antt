@@ -1,10 +1,6 @@
 -- `journal_call::step_check::comparison::largest` meets its contract: none of the threads so far is larger.
-use Prim.Native.Nat.{◌-◌, ◌≤◌}
 use native.Mathlib.Omega.{arith}
-use lib.ListN.{length}
-use Rattle.journal_call.specs.StepCheck.Stretches.{NoneLarger}
 use Rattle.journal_call.proofs.step_check.Comparing.{one_larger}
-use borrow.Author.Rules.{rules}
 use Rattle.journal_call.proofs.step_check.comparison.largest.Goals as goal
 
 pub loop-k-init : goal.loop-k-init
@@ -14,4 +10,4 @@ pub loop-k-preserved : goal.loop-k-preserved
 loop-k-preserved c = (omega arith, one_larger c.args.threads.now _ _ _ c.loop-k.invariant.1 c.larger-most.ensures)
 
 pub returns : goal.returns
-returns c = c.loop-k.invariant.1 j (omega arith)
+returns c j h = c.loop-k.invariant.1 j (omega arith)

@@ -1,10 +1,7 @@
 -- `journal_call::step_check::comparison::largest` meets its contract: none of the threads so far is larger.
 use Prim.Native.Nat.{◌-◌, ◌≤◌}
-use native.Mathlib.Omega.{arith}
 use lib.ListN.{length}
 use Rattle.journal_call.specs.StepCheck.Stretches.{NoneLarger}
-use Rattle.journal_call.proofs.step_check.Comparing.{one_larger}
-use borrow.Author.Rules.{rules}
 use Rattle.journal_call.proofs.step_check.comparison.largest.Given as goal
 
 abbrev pub invariant-loop-k : goal.invariant-loop-k

@@ -1,10 +1,7 @@
 -- `journal_call::step_check::comparison::search_difference` meets its contract: all named steps so far have the reported kinds and domains.
-use Prim.Native.Nat.{◌-◌}
 use native.Mathlib.Omega.{arith}
-use Rattle.refusals.proofs.Scanning.{Scanned, scan_begun, scan_goes_on, scan_found, scan_ended}
-use Rattle.journal_call.specs.StepCheck.Stretches.{differs}
+use Rattle.refusals.proofs.Scanning.{scan_begun, scan_goes_on, scan_found, scan_ended}
 use Rattle.journal_call.proofs.step_check.Comparing.{kind_differs, domain_differs, both_same}
-use borrow.Author.Rules.{rules}
 use Rattle.journal_call.proofs.step_check.comparison.search_difference.Goals as goal
 
 pub loop-k-init : goal.loop-k-init

@@ -1,10 +1,7 @@
 -- `journal_call::step_check::comparison::search_difference` meets its contract: all named steps so far have the reported kinds and domains.
 use Prim.Native.Nat.{◌-◌}
-use native.Mathlib.Omega.{arith}
-use Rattle.refusals.proofs.Scanning.{Scanned, scan_begun, scan_goes_on, scan_found, scan_ended}
+use Rattle.refusals.proofs.Scanning.{Scanned}
 use Rattle.journal_call.specs.StepCheck.Stretches.{differs}
-use Rattle.journal_call.proofs.step_check.Comparing.{kind_differs, domain_differs, both_same}
-use borrow.Author.Rules.{rules}
 use Rattle.journal_call.proofs.step_check.comparison.search_difference.Given as goal
 
 abbrev pub invariant-loop-k : goal.invariant-loop-k

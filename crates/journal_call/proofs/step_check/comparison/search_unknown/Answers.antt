@@ -1,11 +1,7 @@
 -- `journal_call::step_check::comparison::search_unknown` meets its contract: all threads so far are in the tree.
-use Prim.Native.Nat.{◌-◌}
 use native.Mathlib.Omega.{arith}
-use lib.ListN.{length}
-use Rattle.refusals.proofs.Scanning.{Scanned, scan_begun, scan_goes_on, scan_found, scan_ended}
-use Rattle.journal_call.specs.StepCheck.Stretches.{unknown}
+use Rattle.refusals.proofs.Scanning.{scan_begun, scan_goes_on, scan_found, scan_ended}
 use Rattle.journal_call.proofs.step_check.Comparing.{not_below, is_below}
-use borrow.Author.Rules.{rules}
 use Rattle.journal_call.proofs.step_check.comparison.search_unknown.Goals as goal
 
 pub loop-k-init : goal.loop-k-init

@@ -1,11 +1,8 @@
 -- `journal_call::step_check::comparison::search_unknown` meets its contract: all threads so far are in the tree.
 use Prim.Native.Nat.{◌-◌}
-use native.Mathlib.Omega.{arith}
 use lib.ListN.{length}
-use Rattle.refusals.proofs.Scanning.{Scanned, scan_begun, scan_goes_on, scan_found, scan_ended}
+use Rattle.refusals.proofs.Scanning.{Scanned}
 use Rattle.journal_call.specs.StepCheck.Stretches.{unknown}
-use Rattle.journal_call.proofs.step_check.Comparing.{not_below, is_below}
-use borrow.Author.Rules.{rules}
 use Rattle.journal_call.proofs.step_check.comparison.search_unknown.Given as goal
 
 abbrev pub invariant-loop-k : goal.invariant-loop-k

@@ -1,12 +1,9 @@
 -- `journal_call::step_check::pieces::check_all` meets its contract: piece by piece, up to the first that has a wrong step, or the last.
-use mathlib.Core.Path.{◌≡◌, refl, sym, ap, ◌∙◌}
-use Prim.Native.Nat.{◌+◌, ◌-◌}
+use mathlib.Core.Path.{refl, sym, ap, ◌∙◌}
+use Prim.Native.Nat.{◌+◌}
 use native.Mathlib.Omega.{arith}
 use lib.ListN.{length}
-use borrow.Author.Rules.{rules}
-use Rattle.model.specs.Trees.{tree_of}
-use Rattle.journal_call.specs.StepCheck.Stretches.{lent_lock}
-use Rattle.journal_call.proofs.step_check.Wholes.{SoFar, none_yet, piece_fits, stops, goes_on, ends, steps_few}
+use Rattle.journal_call.proofs.step_check.Wholes.{none_yet, piece_fits, stops, goes_on, ends, steps_few}
 use Rattle.journal_call.proofs.step_check.pieces.check_all.Goals as goal
 
 pub loop-at-init : goal.loop-at-init

@@ -4,7 +4,6 @@ use native.Mathlib.Omega.{arith}
 use lib.ListN.{length}
 use Rattle.lock.proofs.steps.Reporting.{reported_front_length}
 use Rattle.journal_call.proofs.step_check.Piecing.{tests, comparable, piece_passes, piece_stops}
-use borrow.Author.Rules.{rules}
 use Rattle.journal_call.proofs.step_check.pieces.check_piece.Goals as goal
 
 pub run_part-requires : goal.run_part-requires

@@ -1,6 +1,5 @@
 -- `journal_call::step_check::pieces::stretch_of` meets its contract: 19 stops it, or an unknown thread, or nothing.
 use Rattle.journal_call.proofs.step_check.Stretching.{early, counter_stops, thread_stops, nothing_stops}
-use borrow.Author.Rules.{rules}
 use Rattle.journal_call.proofs.step_check.pieces.stretch_of.Goals as goal
 
 pub lent_counter_refusal_of-r-requires : goal.lent_counter_refusal_of-r-requires
