@@ -67,7 +67,7 @@ fn main() {
 
 /// What has already been checked in the crate, so only what a change affects is checked again.
 fn checked(copy: &Path, name: &str) -> PathBuf {
-    copy.join("target/inc").join(name)
+    copy.join("crates").join(name).join("out")
 }
 
 fn copied(from: &Path, to: &Path) {
@@ -99,7 +99,7 @@ fn tried(copy: &Path, name: &str, mutant: &Mutant, text: &str) -> Verdict {
     let change = &mutant.change;
     let changed = format!("{}{}{}", &text[..change.start], change.text, &text[change.end..]);
     fs::write(&mutant.file, changed).expect("a change is written");
-    let run = Command::new("timeout").args(["600", "rt", "dev", name]).current_dir(copy).output().expect("rt runs");
+    let run = Command::new("timeout").args(["600", "rt", "check"]).current_dir(copy.join("crates").join(name)).output().expect("rt runs");
     let said = String::from_utf8_lossy(&run.stdout).into_owned() + &String::from_utf8_lossy(&run.stderr);
     let first = said.lines().find(|line| line.contains(": error"));
     match run.status.code() {

@@ -1,6 +1,6 @@
 //! The parts of a file of definitions that are changed, as words: the right sides of definitions and the fields of records.
 
-/// A word or a single bracket, comma or semicolon: its position in the file, in bytes.
+/// A word, a field with the dot before it, or a single bracket, comma or semicolon: its position in the file, in bytes.
 #[derive(Clone, Copy)]
 pub struct Word {
     pub start: usize,
@@ -66,14 +66,16 @@ fn cut(code: &str, start: usize, found: &mut Vec<Word>) {
     let mut begin = None;
     for (at, letter) in code.char_indices() {
         let alone = "(){};,".contains(letter);
-        if alone || letter.is_whitespace() {
+        let field = letter == '.' && code[at + 1..].starts_with(|next: char| next.is_ascii_lowercase());
+        if alone || field || letter.is_whitespace() {
             if let Some(b) = begin.take() {
                 found.push(Word { start: start + b, end: start + at });
             }
             if alone {
                 found.push(Word { start: start + at, end: start + at + 1 });
             }
-        } else if begin.is_none() {
+        }
+        if begin.is_none() && !alone && !letter.is_whitespace() {
             begin = Some(at);
         }
     }
