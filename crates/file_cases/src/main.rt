@@ -1,9 +1,6 @@
 // Lock files of the ladder and of each refusal: number, place and the length of the listing, one line each.
 #![tactic(auto)]
 
-ghost use Rattle.std.specs.Prelude.{◌≤◌, length, IfOk};
-
-use std::io::Read;
 use std::rt::Files;
 use std::{fs, io};
 
@@ -11,25 +8,10 @@ fn number(rt: &impl Print, n: u32) -> io::Result<()> {
     print!(rt; " {n}")
 }
 
-// Reads until the buffer is full or the input ends; returns how many bytes it put at the front of the buffer.
-fn read_full<R: Read>(input: &mut R, buffer: &mut [u8]) -> io::Result<usize>
-    ensures { IfOk result (λ n. n ≤ length buffer.new) }
-{
-    let mut done = 0;
-    while done < buffer.len() {
-        let n = input.read(&mut buffer[done..])?;
-        if n == 0 {
-            break;
-        }
-        done += n;
-    }
-    Ok(done)
-}
-
 fn run(rt: &(impl Files + Print), name: &str) -> io::Result<()> {
     let mut file = [0u8; 65537];
     let mut opened = fs::open(rt, name)?;
-    let read = read_full(&mut opened, &mut file)?;
+    let read = input::read_full(&mut opened, &mut file)?;
     let mut output = [0u8; 65536];
     let r = file_calls::running::run_file(&file[..read], &mut output);
     print!(rt; "{name}")?;
