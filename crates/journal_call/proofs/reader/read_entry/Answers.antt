@@ -10,9 +10,6 @@ use Rattle.journal.specs.Reading.{entry_size}
 use Rattle.journal.proofs.Facts.{whole_entry}
 use Rattle.journal_call.proofs.reader.read_entry.Goals as goal
 
-three : (m : ℕ) → m ≤ 3 → (m ≡ 0 → ⊥) → (m ≡ 1 → ⊥) → (m ≡ 2 → ⊥) → m ≡ 3
-three m h a b c = omega (arith, a, b, c)
-
 pub returns-then-journal-position : goal.returns-then-journal-position
 returns-then-journal-position c = rw (le-ltb _ _ c.if-journal-position.true)
 
@@ -36,7 +33,7 @@ bounds-journal-position-in-1-2 c = omega (arith, c.size_of.ensures ∙ ap entry_
 
 pub bounds-journal-position-in_default-3 : goal.bounds-journal-position-in_default-3
 bounds-journal-position-in_default-3 c = let a = c.args in
-    let bits = three (get_or a.journal.now a.position 0) c.if-bits-gt3.false c.in_default.in_default-own.rest.0.0.1 c.in_default.in_default-own.rest.0.1 c.in_default.in_default-own.rest.1 in
+    let bits : get_or a.journal.now a.position 0 ≡ 3 = omega arith in
     let size = c.size_of.ensures ∙ ap entry_size bits in
     omega (arith, size, c.if-journal-position-2.false)
 
@@ -60,7 +57,7 @@ returns-in-2 c = let a = c.args in
 
 pub returns-in_default : goal.returns-in_default
 returns-in_default c = let a = c.args in
-    let bits = three (get_or a.journal.now a.position 0) c.if-bits-gt3.false c.in_default.in_default-own.rest.0.0.1 c.in_default.in_default-own.rest.0.1 c.in_default.in_default-own.rest.1 in
+    let bits : get_or a.journal.now a.position 0 ≡ 3 = omega arith in
     let size = c.size_of.ensures ∙ ap entry_size bits in
     ap (λ (w : ℕ). Named w (get_or a.journal.now (a.position + 3) 0) (a.position + 4)) c.two_bytes-in_default.ensures
     ∙ sym (whole_entry a.journal.now a.position a.before 3 c.if-journal-position.false bits (lit≤ tt) (omega (arith, size, c.if-journal-position-2.false)))

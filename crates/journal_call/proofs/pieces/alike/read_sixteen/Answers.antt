@@ -6,7 +6,6 @@ use lib.Dec.{lit≤}
 use lib.ListN.{get_or}
 use Rattle.journal_call.proofs.reader.Stretching.{nothing, one, more, threads_long, kinds_long}
 use Rattle.journal_call.proofs.pieces.Sizes.{entry_read}
-use borrow.Author.Tests.{not-false}
 use Rattle.journal_call.proofs.pieces.alike.read_sixteen.Goals as goal
 
 pub kinds_given-requires : goal.kinds_given-requires
@@ -50,7 +49,7 @@ bounds-kinds-count c = omega (arith, c.loop-k-test.true, c.requires.fits.kinds_l
 
 pub loop-k-preserved : goal.loop-k-preserved
 loop-k-preserved c = let here = c.loop-k-test.true in
-    let bits : get_or c.args.journal.now (c.args.position + 2 * c.loop-k.k) 0 ≡ 2 = c.kinds_given.ensures (not-false _ c.if-not-kinds_given.false-raw) c.loop-k.k here in
+    let bits : get_or c.args.journal.now (c.args.position + 2 * c.loop-k.k) 0 ≡ 2 = c.kinds_given.ensures c.if-not-kinds_given.false c.loop-k.k here in
     let next : c.args.count + (c.loop-k.k + 1) ≡ c.args.count + c.loop-k.k + 1 = omega arith in (
       omega arith,
       rw next
