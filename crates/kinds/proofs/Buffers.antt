@@ -2,7 +2,7 @@
 use mathlib.Core.Path.{◌≡◌, refl, sym, ap, ◌∙◌}
 use mathlib.Core.List.{List, [], ◌∷◌, ◌++◌}
 use mathlib.Core.Logic.{◌≢◌}
-use Prim.Native.Nat.{ℕ, zero, suc, ◌+◌, ◌*◌, ◌≤◌, ◌<◌}
+use Prim.Native.Nat.{ℕ, zero, suc, ◌*◌, ◌≤◌, ◌<◌}
 use native.Mathlib.Omega.{arith, by_contra}
 use native.Mathlib.Decide.{ℕ_discrete}
 use lib.ListN.{length, take, drop, get_or, length-append, length-drop}
@@ -21,7 +21,7 @@ use Rattle.model.proofs.Counted.{counters_join}
 use Rattle.model.proofs.Laws.Runs.{steps_join, steps_length, state_after_join}
 use Rattle.schedules.specs.Answers.{row_buffer}
 use Rattle.kinds.specs.Answers.{rows_of, kinds_reply, refused_by, kinds_answer, kinds_trace, kinds_rows}
-use Rattle.kinds.specs.Laws.{KindsRefusalLaw, RunsAs, KindsRunLaw, row_at, RowLaw, KeepsRest, KindsBufferLaw, written, CallsJoin, KindsJoinLaw}
+use Rattle.kinds.specs.Laws.{KindsRefusalLaw, RunsAs, KindsRunLaw, row_at, RowLaw, KeepsRest, KindsBufferLaw, written, KindsJoinLaw}
 use Rattle.kinds.proofs.Refusing.{early_passes, early_zero, kinds_refusal_law}
 
 -- ROWS and where they are in the buffer

@@ -2,7 +2,7 @@
 use mathlib.Core.Path.{◌≡◌, refl, sym, ap, ◌∙◌}
 use mathlib.Core.List.{List, []}
 use mathlib.Core.Logic.{◌≢◌}
-use Prim.Native.Nat.{ℕ, ◌+◌, ◌*◌, ◌/◌, ◌≤◌, ◌<◌}
+use Prim.Native.Nat.{ℕ, ◌*◌, ◌/◌, ◌≤◌, ◌<◌}
 use native.Mathlib.Omega.{arith, by_contra}
 use native.Mathlib.Decide.{ℕ_discrete}
 use lib.ListN.{length}
@@ -14,7 +14,6 @@ use Rattle.model.specs.Refusals.{refusal, accepted, Test, first_refusal, tree_te
 use Rattle.model.specs.Laws.{Numbered, RefusalLaw, RefusesExactly}
 use Rattle.model.proofs.Refusing.{numbered}
 use Rattle.model.proofs.Laws.Refusals.{accepted_number, refusal_law, run_numbered_before_19}
-use Rattle.refusals.specs.declared.Refusal.{Refusal}
 use Rattle.refusals.proofs.Joining.{first_decides, other_decides}
 use Rattle.refusals.proofs.Scanning.{single_hit, single_missed}
 use Rattle.kinds.specs.Answers.{bad_kind_room, kind_room_tests, kinds_tests_before_19, kinds_tests, kinds_refusal}

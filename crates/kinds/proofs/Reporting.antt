@@ -1,9 +1,7 @@
 -- A row is what single calls report: a run of the entries before it, then a step.
-use mathlib.Core.Path.{◌≡◌, refl, sym, ap, ◌∙◌}
-use mathlib.Core.Bool.{true, false}
+use mathlib.Core.Path.{◌≡◌, sym, ap, ◌∙◌}
 use mathlib.Core.List.{List, [], ◌∷◌, ◌++◌}
-use mathlib.Core.Logic.{◌≢◌}
-use Prim.Native.Nat.{ℕ, zero, suc, ◌+◌, ◌≤◌, ◌<◌}
+use Prim.Native.Nat.{ℕ, zero, suc, ◌+◌, ◌<◌}
 use native.Mathlib.Omega.{arith}
 use lib.ListN.{length, take, get_or}
 use lib.Seq.{length-take-le, take-suc, take-take}
@@ -11,11 +9,11 @@ use borrow.Author.Tests.{eq-eqb}
 use Rattle.model.specs.declared.TreeWords.{TreeWords}
 use Rattle.model.specs.declared.LockState.{LockState}
 use Rattle.model.specs.Trees.{Tree, tree_of}
-use Rattle.model.specs.Steps.{kind_number, Step, step}
+use Rattle.model.specs.Steps.{kind_number, step}
 use Rattle.model.specs.Runs.{steps, state_after, run_of, run}
-use Rattle.model.specs.Counters.{lock_state, counters_after, good_counts, any_above}
+use Rattle.model.specs.Counters.{lock_state, counters_after, any_above}
 use Rattle.model.specs.CounterLaws.{CounterFormLaw}
-use Rattle.model.specs.Refusals.{refusal, accepted, bad_counter, step_refusal, run_refusal}
+use Rattle.model.specs.Refusals.{accepted, bad_counter, step_refusal, run_refusal}
 use Rattle.model.specs.Answers.{counters_after_run, first_kind, first_domain, step_reply, step_answer, run_reply, run_answer}
 use Rattle.model.specs.Laws.{AllThreads, Formed, FormLaw}
 use Rattle.model.proofs.Counted.{counters_join}
@@ -25,8 +23,7 @@ use Rattle.model.proofs.Laws.Form.{form_law}
 use Rattle.model.proofs.Laws.Refusals.{accepted_number}
 use Rattle.model.proofs.Laws.Runs.{steps_join, steps_take}
 use Rattle.model.proofs.Trees.Accepted.{sixteen_bit}
-use Rattle.kinds.specs.Answers.{refused_by}
-use Rattle.kinds.specs.Laws.{row_at, RowLaw, SaysStep, SingleStepLaw}
+use Rattle.kinds.specs.Laws.{RowLaw, SingleStepLaw}
 use Rattle.kinds.proofs.Buffers.{same_refusal, row_law}
 
 -- if all entries are threads, so are the first ones, and each of them

@@ -1,9 +1,9 @@
 -- The witnesses of `kinds` hold.
-use mathlib.Core.Path.{◌≡◌, refl}
+use mathlib.Core.Path.{refl}
 use Rattle.model.specs.Scans.{any_below, all_below, filter_below}
 use Rattle.model.specs.Trees.{read_word, tree_of, is_ticket, is_child, is_leaf, depth_from, depth, level, meets, on_path, child_from, child, own_record, is_record, is_member, owner_domain, under}
 use Rattle.model.specs.Places.{place_of, is_idle, is_watch}
-use Rattle.model.specs.States.{fresh_words, fresh_state, numbers_at, store_numbers}
+use Rattle.model.specs.States.{fresh_words, numbers_at, store_numbers}
 use Rattle.model.specs.Steps.{is_kind, is_entry, prep_row, swap_row, link_row, wait_row, leave_row, check_row, help_row, cas_row, linger_row, grant_row, draw_row, watch_row, is_watched, shown_members, raise_row, row, step}
 use Rattle.model.specs.Runs.{steps, state_after, how_many, entering, counts_of, run_of, run, ended_in, entries_under, occurrences}
 use Rattle.model.specs.Tenures.{finds_none, taken_from, given, starts, checks_at, word_to_grant, tenure_length, domain_entries, domain_tenures, longest_tenure}

@@ -1,7 +1,6 @@
 // The structs of the C interface. They contain only numbers, in C layout, so that a C++ host can hold them.
 #![tactic(auto)]
 
-
 // Status words of a record: below the root, and at the root.
 pub const COHORT_START: u64 = 1;
 

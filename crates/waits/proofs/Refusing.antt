@@ -13,7 +13,6 @@ use Rattle.model.specs.Refusals.{refusal, accepted, Test, first_refusal, tree_te
 use Rattle.model.specs.Laws.{Numbered, RefusalLaw, RefusesExactly}
 use Rattle.model.proofs.Refusing.{numbered}
 use Rattle.model.proofs.Laws.Refusals.{accepted_number, refusal_law, run_numbered_before_19}
-use Rattle.refusals.specs.declared.Refusal.{Refusal}
 use Rattle.refusals.proofs.Joining.{first_decides, other_decides}
 use Rattle.refusals.proofs.Scanning.{single_hit, single_missed}
 use Rattle.waits.specs.Refusals.{bad_row_room, row_room_tests, waits_tests_before_19, waits_tests, waits_refusal}

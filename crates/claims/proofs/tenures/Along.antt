@@ -6,7 +6,7 @@ use Prim.Native.Nat.{ℕ, zero, suc, ◌+◌, ◌*◌, ◌≤◌, ◌<◌}
 use native.Mathlib.Omega.{arith}
 use native.Mathlib.Nat.{mul-le-mul_left, add-zero}
 use Rattle.model.specs.Trees.{Tree, is_leaf, under}
-use Rattle.model.specs.Steps.{is_entry, ends, RowResult}
+use Rattle.model.specs.Steps.{is_entry, RowResult}
 use Rattle.model.proofs.Trees.Accepted.{Accepted}
 use Rattle.model.proofs.Lists.{same_or, put_same, put_other, first, count}
 use Rattle.model.proofs.Laws.Empty.{under_domain}

@@ -8,7 +8,7 @@ use native.Mathlib.Nat.{le_antisymm, zero-add, zero-max, add-zero, add_assoc, le
 use borrow.Author.Tests.{ne_eqb}
 use Rattle.model.specs.declared.State.{State as WordState}
 use Rattle.model.specs.Trees.{Tree, is_leaf, under}
-use Rattle.model.specs.States.{place, fresh_state}
+use Rattle.model.specs.States.{fresh_state}
 use Rattle.model.specs.Steps.{is_entry, Step, step}
 use Rattle.model.specs.Runs.{steps, state_after, entries_under}
 use Rattle.model.specs.Tenures.{starts, tenure_length, domain_entries, domain_tenures, longest_tenure}

@@ -6,7 +6,6 @@ use mathlib.Core.Logic.{◌⊎◌, inl, inr}
 use Prim.Native.Nat.{ℕ, ◌+◌, ◌-◌, ◌≤◌, ◌<◌}
 use native.Mathlib.Omega.{arith}
 use lib.Dec.{eqb}
-use lib.ListN.{length}
 use borrow.Author.Tests.{eq-eqb}
 use Rattle.model.specs.declared.Place.{Place}
 use Rattle.model.specs.declared.Place.TheVariants.{Idle, Prep, Swap, Link, Wait, Inside, Check, Help, Cas, Linger, Grant, Draw, Watch, Raise, Invalid}
@@ -14,7 +13,7 @@ use Rattle.model.specs.declared.State.{State}
 use Rattle.model.specs.Trees.{Tree, is_ticket, child, own_record}
 use Rattle.model.specs.Places.{words_of, place_of, place_domain}
 use Rattle.model.specs.States.{acquire_parent, unlocked, tail, next, status, place, wrap, numbers_at, store_numbers, HasRoom}
-use Rattle.model.specs.Steps.{is_entry, begins, ends, RowResult, acquired_place, release_place, done_place, shown_members, row}
+use Rattle.model.specs.Steps.{is_entry, RowResult, acquired_place, release_place, done_place, shown_members, row}
 use Rattle.model.specs.Tenures.{checks_at, word_to_grant}
 use Rattle.model.proofs.Places.{numbers_other, place_stored}
 use Rattle.model.proofs.Lists.{same_or}

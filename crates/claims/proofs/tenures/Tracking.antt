@@ -23,7 +23,6 @@ use Rattle.model.proofs.Trees.Records.{record_own, record_suc}
 use Rattle.model.proofs.Laws.Given.{check_there, tenure_length_within}
 use Rattle.model.proofs.Lists.{less_or, first, count}
 use Rattle.claims.proofs.Queues.Paths.{laws}
-use Rattle.claims.proofs.Queues.Moves as moves
 use Rattle.claims.proofs.Queues.Moves.{low, State}
 use Rattle.claims.proofs.Queues.Changes.{change_firsts}
 use Rattle.claims.proofs.Queues.Invariant.{Inv, one_head}

@@ -1,8 +1,7 @@
 -- WHO MEETS WHAT THE LAWS ASK: inputs that have at once all that a law of `claims` asks of them beside a tree, a schedule and a thread, which `Witnesses` of `model` has; docs/WITNESSES.md is the list.
 use Rattle.std.specs.Prelude.{◌≡◌, true, List, [], ◌∷◌, ◌++◌, ◌≢◌, ℕ, ◌+◌, ◌≤◌, length, replicate}
-use Rattle.model.specs.declared.TreeWords.{TreeWords}
 use Rattle.model.specs.declared.State.{State}
-use Rattle.model.specs.declared.Place.TheVariants.{Idle, Prep, Wait, Check, Grant}
+use Rattle.model.specs.declared.Place.TheVariants.{Idle, Wait, Check, Grant}
 use Rattle.model.specs.Trees.{tree_of}
 use Rattle.model.specs.States.{place, fresh_state}
 use Rattle.model.specs.Steps.{is_entry, step}

@@ -1,5 +1,5 @@
 -- WITNESSES: named steps in two pieces that meet the conditions of the laws of the check of steps; docs/WITNESSES.md lists them.
-use Rattle.std.specs.Prelude.{◌≡◌, List, ℕ, ◌≤◌, length, take, drop}
+use Rattle.std.specs.Prelude.{◌≡◌, ◌≤◌, length, take, drop}
 use Rattle.model.specs.Trees.{tree_of}
 use Rattle.model.specs.Counters.{fresh_lock, most_counted}
 use Rattle.model.specs.Laws.{Formed}

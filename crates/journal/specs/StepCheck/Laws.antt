@@ -5,7 +5,6 @@ use Rattle.model.specs.declared.LockState.{LockState}
 use Rattle.model.specs.Trees.{Tree, tree_of}
 use Rattle.model.specs.Steps.{kind_number, Step, step}
 use Rattle.model.specs.Runs.{steps}
-use Rattle.model.specs.WellFormed.{well_formed}
 use Rattle.model.specs.Counters.{lock_after, good_counts, fresh_lock, most_counted}
 use Rattle.model.specs.Refusals.{accepted, bad_counter, tree_refusal}
 use Rattle.model.specs.Answers.{run_answer}

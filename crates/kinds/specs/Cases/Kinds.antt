@@ -7,7 +7,7 @@ use Rattle.model.specs.Trees.{tree_of}
 use Rattle.model.specs.States.{fresh_words}
 use Rattle.model.specs.Runs.{run}
 use Rattle.model.specs.Counters.{lock_state, fresh_lock, most_counted}
-use Rattle.model.specs.Cases.Marked.{tree, at_ticket_root, two_homes, first_entries, two_in_root, three_levels, same_numbers, same_counts, same_lock, uncounted}
+use Rattle.model.specs.Cases.Marked.{tree, at_ticket_root, two_homes, two_in_root, three_levels, same_numbers, same_counts, same_lock, uncounted}
 use Rattle.model.specs.Answers.{no_counts}
 use Rattle.kinds.specs.declared.KindsReply.{KindsReply}
 use Rattle.kinds.specs.Answers.{kinds_answer, kinds_trace, kinds_rows}

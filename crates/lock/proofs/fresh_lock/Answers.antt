@@ -4,7 +4,6 @@ use native.Mathlib.Omega.{arith}
 use Rattle.model.specs.Answers.{fresh_answer}
 use Rattle.refusals.proofs.Reading.{refusal_words_same}
 use Rattle.lock.proofs.steps.Starting.{fresh_is}
-use borrow.Author.Rules.{rules}
 use Rattle.lock.proofs.fresh_lock.Goals as goal
 
 pub returns : goal.returns

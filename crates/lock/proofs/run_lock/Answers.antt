@@ -1,7 +1,6 @@
 -- `lock::run_lock` meets its contract: the run on the state's arrays, whose lengths the type fixes.
 use Rattle.lock.proofs.steps.Typing.{typed}
 use Rattle.lock.specs.Lent.{run_reported}
-use borrow.Author.Rules.{rules}
 use Rattle.lock.proofs.run_lock.Goals as goal
 
 pub run_tested-r-requires : goal.run_tested-r-requires

@@ -3,7 +3,6 @@ use mathlib.Core.Path.{refl}
 use Rattle.lock.proofs.steps.Answering.{step_reported}
 use Rattle.lock.proofs.steps.Typing.{typed}
 use Rattle.lock.specs.Lent.{run_reported}
-use borrow.Author.Rules.{rules}
 use Rattle.lock.proofs.step_lock.Goals as goal
 
 pub run_tested-r-requires : goal.run_tested-r-requires

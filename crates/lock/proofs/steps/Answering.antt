@@ -15,7 +15,6 @@ use Rattle.model.specs.declared.LockState.{LockState}
 use Rattle.model.specs.declared.Counts.{Counts}
 use Rattle.model.specs.declared.RunReply.{RunReply}
 use Rattle.model.specs.Trees.{Tree, tree_of}
-use Rattle.model.specs.States.{place}
 use Rattle.model.specs.Steps.{Step, step}
 use Rattle.model.specs.Runs.{steps, state_after, counts_of, Run, run_of, run}
 use Rattle.model.specs.Counters.{lock_state, counters_after}

@@ -15,7 +15,7 @@ use Rattle.model.specs.declared.Place.TheVariants.{Idle, Prep, Swap, Link, Wait,
 use Rattle.model.specs.declared.State.{State}
 use Rattle.model.specs.Trees.{Tree}
 use Rattle.model.specs.Places.{place_words, place_of}
-use Rattle.model.specs.States.{none, status, place, wrap}
+use Rattle.model.specs.States.{status, place, wrap}
 use Rattle.model.specs.Steps.{is_watched, shown_members, step}
 use Rattle.model.specs.Runs.{occurrences}
 use Rattle.model.specs.Tenures.{given, starts, checks_at, word_to_grant, tenure_length, domain_tenures, longest_tenure}

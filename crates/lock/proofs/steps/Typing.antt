@@ -1,9 +1,8 @@
 -- What the type of a state fixes: the lengths of its arrays, that statuses and words are below 2^64, and the counters below 2^16.
-use mathlib.Core.Path.{sym, ◌∙◌}
-use mathlib.Core.List.{List, [], ◌∷◌, map}
+use mathlib.Core.List.{List, [], ◌∷◌}
 use Prim.Native.Nat.{ℕ, zero, suc, ◌<◌}
 use native.Mathlib.Omega.{arith}
-use lib.ListN.{get_or, length-map}
+use lib.ListN.{get_or}
 use mir.Val.{Val}
 use denote.Array.{each}
 use denote.Shadow.{shadow}

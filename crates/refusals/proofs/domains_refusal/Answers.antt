@@ -4,7 +4,6 @@ use Prim.Native.Nat.{ℕ}
 use Rattle.model.specs.declared.TreeWords.{TreeWords}
 use Rattle.model.specs.Refusals.{accepted}
 use Rattle.refusals.proofs.TreeTests as tests
-use borrow.Author.Rules.{rules}
 use Rattle.refusals.proofs.domains_refusal.Goals as goal
 
 abbrev words : (domains : ℕ) → (parents thresholds : List ℕ) → TreeWords

@@ -3,7 +3,6 @@ use Rattle.model.specs.Refusals.{accepted}
 use Rattle.refusals.specs.Arrays.{words_in}
 use Rattle.refusals.proofs.TreeTests.{shape, home_refused, facts, empty_refused, tree_passes}
 use Rattle.refusals.proofs.Occupying.{homes_real, occupied_lowest}
-use borrow.Author.Rules.{rules}
 use Rattle.refusals.proofs.homes_refusal.Goals as goal
 
 pub mark_unfit_homes-requires : goal.mark_unfit_homes-requires

@@ -1,13 +1,9 @@
 -- `refusals::lowest_bad_entry` meets its contract: all entries so far name threads.
 use Prim.Native.Nat.{◌-◌}
-use native.Mathlib.Omega.{arith}
 use lib.ListN.{length}
-use borrow.Author.Tests.{le-leb, lt-leb}
-use Rattle.model.specs.Trees.{tree_of}
 use Rattle.model.specs.Refusals.{bad_entry}
 use Rattle.refusals.specs.Arrays.{threads_in}
-use Rattle.refusals.proofs.Scanning.{Scanned, scan_begun, scan_goes_on, scan_found, scan_ended}
-use borrow.Author.Rules.{rules}
+use Rattle.refusals.proofs.Scanning.{Scanned}
 use Rattle.refusals.proofs.lowest_bad_entry.Given as goal
 
 abbrev pub invariant-loop-k : goal.invariant-loop-k

@@ -1,7 +1,6 @@
 -- `refusals::schedule_refusal_of` meets its contract: the length, the lowest bad entry and the buffer length, in the order of 11 to 13.
 use Rattle.model.specs.Refusals.{refusal, accepted}
 use Rattle.refusals.proofs.ScheduleTests as tests
-use borrow.Author.Rules.{rules}
 use Rattle.refusals.proofs.schedule_refusal_of.Goals as goal
 
 pub returns-then-schedule-gt65536 : goal.returns-then-schedule-gt65536

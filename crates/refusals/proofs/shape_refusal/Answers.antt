@@ -3,7 +3,6 @@ use mathlib.Core.List.{List, []}
 use Prim.Native.Nat.{ℕ}
 use Rattle.model.specs.declared.TreeWords.{TreeWords}
 use Rattle.refusals.proofs.TreeTests.{counts_refused, few_domains, domains_decide}
-use borrow.Author.Rules.{rules}
 use Rattle.refusals.proofs.shape_refusal.Goals as goal
 
 abbrev words : (domains threads : ℕ) → (parents thresholds : List ℕ) → TreeWords

@@ -3,7 +3,6 @@ use Rattle.model.specs.Refusals.{accepted}
 use Rattle.refusals.specs.Arrays.{words_in}
 use Rattle.refusals.proofs.TreeTests.{shape_refused, shape_passed, shape}
 use Rattle.refusals.proofs.Occupying.{leaves_pass}
-use borrow.Author.Rules.{rules}
 use Rattle.refusals.proofs.tree_refusal_of.Goals as goal
 
 pub returns-then-r-ne0 : goal.returns-then-r-ne0

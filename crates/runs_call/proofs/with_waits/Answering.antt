@@ -5,7 +5,6 @@ use Prim.Native.Nat.{ℕ, ◌/◌, ◌≤◌, ◌<◌}
 use native.Mathlib.Omega.{arith}
 use Rattle.model.specs.declared.LockState.{LockState}
 use Rattle.model.specs.Trees.{Tree}
-use Rattle.model.specs.Refusals as model
 use Rattle.model.specs.Refusals.{refusal, first_refusal, counter_tests, run_tests_before_19}
 use Rattle.model.specs.Laws.{RefusalLaw}
 use Rattle.model.proofs.Laws.Refusals.{accepted_number, refusal_law, run_numbered_before_19}

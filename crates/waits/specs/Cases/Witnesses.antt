@@ -1,5 +1,5 @@
 -- WHO MEETS WHAT THE LAWS ASK: inputs that have at once all that a law of `waits` asks of them, where no line of the cases does; docs/WITNESSES.md is the list.
-use Rattle.std.specs.Prelude.{◌≡◌, true, false, List, [], ◌∷◌, ℕ, replicate}
+use Rattle.std.specs.Prelude.{◌≡◌, true, false, List, [], ◌∷◌, replicate}
 use Rattle.model.specs.declared.State.{State}
 use Rattle.model.specs.Trees.{Tree, tree_of}
 use Rattle.model.specs.States.{fresh_words}

@@ -1,11 +1,8 @@
 -- `file_calls::printing::digit_count` meets its contract: a division by ten removes one digit.
-use borrow.Author.Rules.{rules}
 use mathlib.Core.Path.{◌≡◌}
 use Prim.Native.Nat.{◌+◌, ◌≤◌}
-use native.Mathlib.Omega.{arith}
 use lib.ListN.{length}
 use Rattle.lock_file.specs.PrintedListing.Listing.{numeral}
-use Rattle.lock_file.proofs.printed_listing.Numerals.{length_small, length_large, length_word}
 use Rattle.file_calls.proofs.printing.digit_count.Given as goal
 
 abbrev pub invariant-loop-rest : goal.invariant-loop-rest

@@ -2,7 +2,6 @@
 use mathlib.Core.Path.{ap}
 use native.Mathlib.Omega.{arith}
 use lib.ListN.{length}
-use borrow.Author.Rules.{rules}
 use Rattle.lock_file.specs.PrintedListing.Listing.{spaced}
 use Rattle.lock_file.proofs.printed_listing.Numerals.{length_first_line}
 use Rattle.file_calls.proofs.printing.first_line_length.Goals as goal

@@ -3,7 +3,6 @@ use mathlib.Core.Path.{sym, ap, ◌∙◌}
 use mathlib.Core.List.{[], ◌∷◌}
 use native.Mathlib.Omega.{arith}
 use lib.ListN.{length}
-use borrow.Author.Rules.{rules}
 use Rattle.lock_file.specs.PrintedListing.Listing.{spaced, count_numbers, first_line}
 use Rattle.model.proofs.Storing.{sets_append}
 use Rattle.lock_file.proofs.printed_listing.Numerals.{length_first_line}

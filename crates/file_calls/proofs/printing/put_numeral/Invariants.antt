@@ -1,13 +1,9 @@
 -- `file_calls::printing::put_numeral` meets its contract: at each turn of the loop, what remains to write gives the result of the whole.
-use mathlib.Core.Path.{◌≡◌, refl, ◌∙◌}
-use Prim.Native.Nat.{◌+◌, ◌-◌, ◌/◌, ◌≤◌}
-use native.Mathlib.Omega.{arith}
-use lib.ListN.{length, length-set}
+use mathlib.Core.Path.{◌≡◌}
+use Prim.Native.Nat.{◌+◌, ◌≤◌}
+use lib.ListN.{length}
 use lib.Seq.{sets}
-use borrow.Author.Rules.{rules}
 use Rattle.lock_file.specs.PrintedListing.Listing.{numeral}
-use Rattle.file_calls.proofs.printing.Writing.{last_digit, only_digit}
-use Rattle.lock_file.proofs.printed_listing.Numerals.{length_large, length_positive}
 use Rattle.file_calls.proofs.printing.put_numeral.Given as goal
 
 abbrev pub invariant-loop-rest : goal.invariant-loop-rest

@@ -1,11 +1,8 @@
 -- `file_calls::printing::put_spaced` meets its contract: at each turn of the loop, what remains to write gives the result of the whole.
-use mathlib.Core.Path.{ap, ◌≡◌, refl, sym, ◌∙◌}
-use Prim.Native.Nat.{◌+◌, ◌-◌, ◌≤◌}
+use mathlib.Core.Path.{ap, refl, sym, ◌∙◌}
 use native.Mathlib.Omega.{arith}
-use lib.ListN.{length, drop, length-set}
-use lib.Seq.{sets}
+use lib.ListN.{length, length-set}
 use borrow.Author.Rules.{rules}
-use Rattle.lock_file.specs.PrintedListing.Listing.{spaced}
 use Rattle.file_calls.proofs.printing.Writing.{spaced_written}
 use Rattle.lock_file.proofs.printed_listing.Numerals.{spaced_length_next, spaced_over}
 use Rattle.file_calls.proofs.printing.put_spaced.Goals as goal

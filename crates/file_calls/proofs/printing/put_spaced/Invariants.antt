@@ -1,13 +1,9 @@
 -- `file_calls::printing::put_spaced` meets its contract: at each turn of the loop, what remains to write gives the result of the whole.
-use mathlib.Core.Path.{ap, ◌≡◌, refl, sym, ◌∙◌}
+use mathlib.Core.Path.{◌≡◌}
 use Prim.Native.Nat.{◌+◌, ◌-◌, ◌≤◌}
-use native.Mathlib.Omega.{arith}
-use lib.ListN.{length, drop, length-set}
+use lib.ListN.{length, drop}
 use lib.Seq.{sets}
-use borrow.Author.Rules.{rules}
 use Rattle.lock_file.specs.PrintedListing.Listing.{spaced}
-use Rattle.file_calls.proofs.printing.Writing.{spaced_written}
-use Rattle.lock_file.proofs.printed_listing.Numerals.{spaced_length_next, spaced_over}
 use Rattle.file_calls.proofs.printing.put_spaced.Given as goal
 
 abbrev pub invariant-loop-k : goal.invariant-loop-k

@@ -1,13 +1,9 @@
 -- `file_calls::printing::put_trace` meets its contract: at each turn of the loop, what remains to write gives the result of the whole.
-use mathlib.Core.Path.{ap, ◌≡◌, refl, sym, ◌∙◌}
+use mathlib.Core.Path.{◌≡◌}
 use Prim.Native.Nat.{◌+◌, ◌*◌, ◌-◌, ◌≤◌}
-use native.Mathlib.Omega.{arith}
 use lib.ListN.{length, drop}
 use lib.Seq.{sets}
-use borrow.Author.Rules.{rules}
-use Rattle.lock_file.specs.PrintedListing.Listing.{numeral, trace_lines}
-use Rattle.file_calls.proofs.printing.Writing.{trace_written}
-use Rattle.lock_file.proofs.printed_listing.Numerals.{length_number, length_word, trace_length_next, trace_lines_over}
+use Rattle.lock_file.specs.PrintedListing.Listing.{trace_lines}
 use Rattle.file_calls.proofs.printing.put_trace.Given as goal
 
 abbrev pub invariant-loop-k : goal.invariant-loop-k

@@ -1,10 +1,8 @@
 -- `file_calls::printing::spaced_length` meets its contract: the length so far and the rest add up to the whole.
-use mathlib.Core.Path.{ap, ◌≡◌}
-use Prim.Native.Nat.{◌+◌, ◌*◌, ◌-◌, ◌≤◌}
+use mathlib.Core.Path.{ap}
 use native.Mathlib.Omega.{arith}
-use lib.ListN.{length, drop}
+use lib.ListN.{length}
 use borrow.Author.Rules.{rules}
-use Rattle.lock_file.specs.PrintedListing.Listing.{spaced}
 use Rattle.lock_file.proofs.printed_listing.Numerals.{spaced_length_next, spaced_over}
 use Rattle.file_calls.proofs.printing.spaced_length.Goals as goal
 

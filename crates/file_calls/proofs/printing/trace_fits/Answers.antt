@@ -1,9 +1,8 @@
 -- `file_calls::printing::trace_fits` meets its contract: the space left, and the lines left.
-use mathlib.Core.Path.{ap, ◌≡◌, sym}
-use Prim.Native.Nat.{◌+◌, ◌-◌, ◌≤◌, ◌<◌}
+use mathlib.Core.Path.{ap, sym}
+use Prim.Native.Nat.{◌≤◌, ◌<◌}
 use native.Mathlib.Omega.{arith}
-use lib.ListN.{length, drop}
-use borrow.Author.Rules.{rules}
+use lib.ListN.{length}
 use borrow.Author.Tests.{lt-leb, le-leb}
 use Rattle.lock_file.specs.PrintedListing.Listing.{numeral, trace_lines}
 use Rattle.lock_file.proofs.printed_listing.Numerals.{trace_length_next, trace_lines_over}

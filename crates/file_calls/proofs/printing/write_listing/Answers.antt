@@ -3,7 +3,6 @@ use mathlib.Core.Path.{sym, ◌∙◌}
 use Prim.Native.Nat.{◌-◌, ◌≤◌, ◌<◌}
 use native.Mathlib.Omega.{arith}
 use lib.ListN.{length}
-use borrow.Author.Rules.{rules}
 use borrow.Author.Tests.{leb-true, leb-false, not-true, not-false}
 use Rattle.lock_file.specs.PrintedListing.Listing.{listing, trace_lines}
 use Rattle.lock_file.proofs.printed_listing.Lengths.{length_listing}

@@ -4,7 +4,6 @@ use Prim.Native.Nat.{◌≤◌, ◌<◌}
 use mathlib.Core.List.{[], ◌∷◌}
 use native.Mathlib.Omega.{arith}
 use lib.ListN.{length}
-use borrow.Author.Rules.{rules}
 use Rattle.lock_file.specs.PrintedListing.Listing.{refusal_line}
 use Rattle.file_calls.proofs.printing.Printing.{length_short, length_fits, printed_short, printed_fits, line_written}
 use Rattle.lock_file.proofs.printed_listing.Numerals.{length_refusal_line}
@@ -23,5 +22,8 @@ returns c = let a = c.args in
     let line = refusal_line a.number a.place in
     let long = length_refusal_line a.number a.place in
     let fits : length line ≤ length a.output.now = omega arith in
-    record { value = rw (length_fits line _ fits) (omega (arith, c.put_spaced.ensures.value)); output_after = rw (printed_fits line _ fits)
-          (c.put_spaced.ensures.output_after ∙ rw c.put_refused.ensures (line_written a.output.now (114 ∷ 101 ∷ 102 ∷ 117 ∷ 115 ∷ 101 ∷ 100 ∷ []) (a.number ∷ a.place ∷ []) fits)) }
+    record {
+      value = rw (length_fits line _ fits) (omega (arith, c.put_spaced.ensures.value));
+      output_after = rw (printed_fits line _ fits)
+          (c.put_spaced.ensures.output_after ∙ rw c.put_refused.ensures (line_written a.output.now (114 ∷ 101 ∷ 102 ∷ 117 ∷ 115 ∷ 101 ∷ 100 ∷ []) (a.number ∷ a.place ∷ []) fits));
+    }

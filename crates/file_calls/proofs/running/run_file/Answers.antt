@@ -2,7 +2,6 @@
 use Prim.Native.Nat.{◌≤◌}
 use native.Mathlib.Omega.{arith}
 use lib.ListN.{length}
-use borrow.Author.Rules.{rules}
 use Rattle.model.specs.Refusals.{refusal}
 use Rattle.lock_file.specs.FileAnswers.FileAnswers.{outcome_reply, outcome_output, file_answer, output_answer}
 use Rattle.file_calls.proofs.running.Outcomes.{file_long, file_at, file_ended, file_bad}

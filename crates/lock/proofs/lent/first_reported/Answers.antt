@@ -1,7 +1,6 @@
 -- `lock::lent::first_reported` meets its contract: nothing for an empty schedule, otherwise what the number of the first step encodes.
 use native.Mathlib.Omega.{arith}
 use borrow.Author.Tests.{eq-eqb, ne_eqb}
-use borrow.Author.Rules.{rules}
 use Rattle.lock.proofs.lent.first_reported.Goals as goal
 
 pub returns-then-schedule-eq0 : goal.returns-then-schedule-eq0

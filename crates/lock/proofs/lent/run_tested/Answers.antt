@@ -3,7 +3,6 @@ use mathlib.Core.Path.{refl, ap}
 use Rattle.lock.proofs.steps.Answering.{run_refuses, run_passes, early_passes, first_small, kinds_few, run_answered, reported_first}
 use Rattle.model.specs.Refusals.{refusal}
 use Rattle.lock.proofs.Reporting.{refused_reported, accepted_reported}
-use borrow.Author.Rules.{rules}
 use Rattle.lock.proofs.lent.run_tested.Goals as goal
 
 pub refusal_of-r-requires : goal.refusal_of-r-requires

@@ -4,7 +4,6 @@ use mathlib.Core.Bool.{true, false}
 use borrow.Author.Tests.{not-true, not-false}
 use Rattle.refusals.proofs.Scanning.{by_answer}
 use Rattle.refusals.proofs.of_runs.Passing.{shape_of, root_fails, homes_there, parts_are}
-use borrow.Author.Rules.{rules}
 use Rattle.refusals.proofs.of_runs.is_well_formed.Goals as goal
 
 pub returns-then-not-good_root_at : goal.returns-then-not-good_root_at

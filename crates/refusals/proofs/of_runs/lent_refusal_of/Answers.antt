@@ -6,7 +6,6 @@ use Rattle.model.specs.Trees.{tree_of}
 use Rattle.refusals.proofs.Reading.{refusal_words_same}
 use Rattle.refusals.proofs.Scanning.{by_answer}
 use Rattle.refusals.proofs.of_runs.StateTests.{tree_refuses, counts_refuse, words_refuse, schedule_answers, counts_of_tree, tree_accepted}
-use borrow.Author.Rules.{rules}
 use Rattle.refusals.proofs.of_runs.lent_refusal_of.Goals as goal
 
 pub returns-then-r-ne0 : goal.returns-then-r-ne0

@@ -4,7 +4,6 @@ use native.Mathlib.Omega.{arith}
 use borrow.Author.Tests.{eq-eqb, ne_eqb}
 use Rattle.model.specs.declared.Found.{Found}
 use Rattle.model.proofs.Laws.Search.{same_child_from}
-use borrow.Author.Rules.{rules}
 use Rattle.refusals.proofs.paths.record_at.Goals as goal
 
 pub returns-then-l-home : goal.returns-then-l-home

@@ -2,8 +2,6 @@
 use mathlib.Core.Path.{◌≡◌, refl, sym, ◌∙◌}
 use Prim.Native.Nat.{◌+◌, ◌-◌, ◌≤◌, ◌<◌}
 use native.Mathlib.Omega.{arith}
-use Rattle.model.specs.Search.{search_from}
-use Rattle.refusals.specs.Arrays.{parents_in}
 use Rattle.refusals.proofs.paths.Children.{search_root, search_hit, search_up, search_end}
 use borrow.Author.Rules.{rules}
 use Rattle.refusals.proofs.paths.search_at.Goals as goal

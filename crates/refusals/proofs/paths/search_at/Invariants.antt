@@ -1,11 +1,8 @@
 -- `refusals::paths::search_at` meets its contract: at each turn of the loop, the search from the domain reached gives the result of the whole.
-use mathlib.Core.Path.{◌≡◌, refl, sym, ◌∙◌}
-use Prim.Native.Nat.{◌+◌, ◌-◌, ◌≤◌, ◌<◌}
-use native.Mathlib.Omega.{arith}
+use mathlib.Core.Path.{◌≡◌}
+use Prim.Native.Nat.{◌-◌, ◌≤◌, ◌<◌}
 use Rattle.model.specs.Search.{search_from}
 use Rattle.refusals.specs.Arrays.{parents_in}
-use Rattle.refusals.proofs.paths.Children.{search_root, search_hit, search_up, search_end}
-use borrow.Author.Rules.{rules}
 use Rattle.refusals.proofs.paths.search_at.Given as goal
 
 abbrev pub invariant-loop-looked : goal.invariant-loop-looked

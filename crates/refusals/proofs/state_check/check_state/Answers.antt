@@ -1,6 +1,5 @@
 -- `refusals::state_check::check_state` meets its contract: the tests of an empty run.
 use mathlib.Core.Path.{ap, ◌∙◌}
-use borrow.Author.Rules.{rules}
 use Rattle.refusals.specs.Arrays.{refusal_words}
 use Rattle.refusals.specs.StateCheck.Answers.{check_answer}
 use Rattle.refusals.proofs.state_check.Checking.{empty_early}

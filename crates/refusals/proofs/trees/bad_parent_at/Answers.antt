@@ -4,7 +4,6 @@ use native.Mathlib.Omega.{arith}
 use mathlib.Core.List.{[]}
 use Rattle.model.specs.Refusals.{bad_parent}
 use Rattle.refusals.proofs.Reading.{parent_in}
-use borrow.Author.Rules.{rules}
 use Rattle.refusals.proofs.trees.bad_parent_at.Goals as goal
 
 pub returns-then-d-eq0 : goal.returns-then-d-eq0

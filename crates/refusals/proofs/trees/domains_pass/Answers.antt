@@ -1,10 +1,9 @@
 -- `refusals::trees::domains_pass` meets its contract: the domains so far fail none of 6 to 8.
 use mathlib.Core.Path.{◌∙◌}
 use mathlib.Core.Bool.{false≢true}
-use Prim.Native.Nat.{◌≤◌, ◌<◌, ◌-◌}
 use native.Mathlib.Omega.{arith}
 use lib.ListN.{get_or}
-use Rattle.refusals.proofs.Domains.{Passed, passed_first, passed_next, passed_all}
+use Rattle.refusals.proofs.Domains.{passed_first, passed_next, passed_all}
 use borrow.Author.Rules.{rules}
 use Rattle.refusals.proofs.trees.domains_pass.Goals as goal
 

@@ -1,9 +1,6 @@
 -- `refusals::trees::home_domains` meets its contract: the homes of the threads so far are marked.
-use mathlib.Core.Path.{◌≡◌}
 use Prim.Native.Nat.{◌≤◌, ◌-◌}
-use native.Mathlib.Omega.{arith}
-use Rattle.refusals.proofs.Homes.{MarkedBelow, marked_none, marked_more}
-use borrow.Author.Rules.{rules}
+use Rattle.refusals.proofs.Homes.{MarkedBelow}
 use Rattle.refusals.proofs.trees.home_domains.Given as goal
 
 abbrev pub invariant-loop-i : goal.invariant-loop-i

@@ -1,10 +1,9 @@
 -- `refusals::trees::homes_are_leaves` meets its contract: so far each byte is marked in exactly one of the two tables.
 use mathlib.Core.Path.{◌≡◌, refl}
-use Prim.Native.Nat.{◌≤◌, ◌-◌}
 use native.Mathlib.Omega.{arith}
 use native.Mathlib.Numerals.{add-one}
 use Rattle.model.specs.Scans.{all_below}
-use Rattle.refusals.proofs.Homes.{alike, tables_differ}
+use Rattle.refusals.proofs.Homes.{tables_differ}
 use borrow.Author.Rules.{rules}
 use Rattle.refusals.proofs.trees.homes_are_leaves.Goals as goal
 

@@ -1,11 +1,8 @@
 -- `refusals::trees::homes_are_leaves` meets its contract: so far each byte is marked in exactly one of the two tables.
-use mathlib.Core.Path.{◌≡◌, refl}
+use mathlib.Core.Path.{◌≡◌}
 use Prim.Native.Nat.{◌≤◌, ◌-◌}
-use native.Mathlib.Omega.{arith}
-use native.Mathlib.Numerals.{add-one}
 use Rattle.model.specs.Scans.{all_below}
-use Rattle.refusals.proofs.Homes.{alike, tables_differ}
-use borrow.Author.Rules.{rules}
+use Rattle.refusals.proofs.Homes.{alike}
 use Rattle.refusals.proofs.trees.homes_are_leaves.Given as goal
 
 abbrev pub invariant-loop-x : goal.invariant-loop-x

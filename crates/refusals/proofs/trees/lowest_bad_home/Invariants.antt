@@ -1,13 +1,9 @@
 -- `refusals::trees::lowest_bad_home` meets its contract: all threads so far have good homes.
-use mathlib.Core.Path.{sym, ◌∙◌}
 use mathlib.Core.List.{[]}
 use Prim.Native.Nat.{◌-◌}
-use native.Mathlib.Omega.{arith}
 use Rattle.model.specs.Refusals.{bad_home}
 use Rattle.refusals.specs.Arrays.{tree_in}
-use Rattle.refusals.proofs.Scanning.{Scanned, scan_begun, scan_goes_on, scan_found, scan_ended}
-use Rattle.refusals.proofs.Homes.{home_test}
-use borrow.Author.Rules.{rules}
+use Rattle.refusals.proofs.Scanning.{Scanned}
 use Rattle.refusals.proofs.trees.lowest_bad_home.Given as goal
 
 abbrev pub invariant-loop-i : goal.invariant-loop-i

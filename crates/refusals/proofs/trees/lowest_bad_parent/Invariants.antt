@@ -1,11 +1,8 @@
 -- `refusals::trees::lowest_bad_parent` meets its contract: all domains so far have good parents.
-use mathlib.Core.Path.{sym, ◌∙◌}
 use Prim.Native.Nat.{◌-◌}
-use native.Mathlib.Omega.{arith}
 use Rattle.model.specs.Refusals.{bad_parent}
 use Rattle.refusals.specs.Arrays.{parents_in}
-use Rattle.refusals.proofs.Scanning.{Scanned, scan_begun, scan_goes_on, scan_found, scan_ended}
-use borrow.Author.Rules.{rules}
+use Rattle.refusals.proofs.Scanning.{Scanned}
 use Rattle.refusals.proofs.trees.lowest_bad_parent.Given as goal
 
 abbrev pub invariant-loop-d : goal.invariant-loop-d

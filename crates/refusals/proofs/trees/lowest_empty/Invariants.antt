@@ -1,10 +1,8 @@
 -- `refusals::trees::lowest_empty` meets its contract: all domains so far are marked.
 use mathlib.Core.Bool.{false, not}
 use Prim.Native.Nat.{◌-◌}
-use native.Mathlib.Omega.{arith}
 use lib.ListN.{get_or}
-use Rattle.refusals.proofs.Scanning.{Scanned, scan_begun, scan_goes_on, scan_found, scan_ended}
-use borrow.Author.Rules.{rules}
+use Rattle.refusals.proofs.Scanning.{Scanned}
 use Rattle.refusals.proofs.trees.lowest_empty.Given as goal
 
 abbrev pub invariant-loop-d : goal.invariant-loop-d

@@ -1,12 +1,9 @@
 -- `refusals::trees::lowest_no_threshold` meets its contract: all domains so far have thresholds.
-use mathlib.Core.Path.{sym, ◌∙◌}
 use mathlib.Core.List.{[]}
 use Prim.Native.Nat.{◌-◌}
-use native.Mathlib.Omega.{arith}
 use Rattle.model.specs.Refusals.{no_threshold}
 use Rattle.refusals.specs.Arrays.{tree_in}
-use Rattle.refusals.proofs.Scanning.{Scanned, scan_begun, scan_goes_on, scan_found, scan_ended}
-use borrow.Author.Rules.{rules}
+use Rattle.refusals.proofs.Scanning.{Scanned}
 use Rattle.refusals.proofs.trees.lowest_no_threshold.Given as goal
 
 abbrev pub invariant-loop-d : goal.invariant-loop-d

@@ -1,9 +1,6 @@
 -- `refusals::trees::lowest_too_deep` meets its contract: the levels of the domains so far are in the array, and are small.
 use Prim.Native.Nat.{◌≤◌, ◌<◌, ◌-◌}
-use native.Mathlib.Omega.{arith}
-use Rattle.refusals.proofs.Levels.{Levels, levels_first, levels_next, level_passes, level_fails}
-use Rattle.refusals.proofs.Scanning.{scan_found, scan_ended}
-use borrow.Author.Rules.{rules}
+use Rattle.refusals.proofs.Levels.{Levels}
 use Rattle.refusals.proofs.trees.lowest_too_deep.Given as goal
 
 abbrev pub invariant-loop-d : goal.invariant-loop-d

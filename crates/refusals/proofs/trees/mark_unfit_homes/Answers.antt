@@ -1,7 +1,6 @@
 -- `refusals::trees::mark_unfit_homes` meets its contract: the parents of the domains so far are marked.
-use Prim.Native.Nat.{◌≤◌, ◌<◌, ◌-◌}
 use native.Mathlib.Omega.{arith}
-use Rattle.refusals.proofs.Homes.{Marked, marked_first, marked_next, marked_all}
+use Rattle.refusals.proofs.Homes.{marked_first, marked_next, marked_all}
 use borrow.Author.Rules.{rules}
 use Rattle.refusals.proofs.trees.mark_unfit_homes.Goals as goal
 

@@ -1,10 +1,8 @@
 -- `refusals::trees::marked_homes` meets its contract: the homes of the threads so far are marked.
 use mathlib.Core.Path.{◌≡◌}
-use Prim.Native.Nat.{ℕ, ◌≤◌, ◌<◌, ◌-◌}
 use native.Mathlib.Omega.{arith}
 use native.Mathlib.Decide.{ℕ_discrete}
-use lib.ListN.{get_or}
-use Rattle.refusals.proofs.Homes.{MarkedBelow, marked_none, marked_more}
+use Rattle.refusals.proofs.Homes.{marked_none, marked_more}
 use borrow.Author.Rules.{rules}
 use Rattle.refusals.proofs.trees.marked_homes.Goals as goal
 

@@ -1,11 +1,7 @@
 -- `refusals::trees::marked_homes` meets its contract: the homes of the threads so far are marked.
-use mathlib.Core.Path.{◌≡◌}
 use Prim.Native.Nat.{ℕ, ◌≤◌, ◌<◌, ◌-◌}
-use native.Mathlib.Omega.{arith}
-use native.Mathlib.Decide.{ℕ_discrete}
 use lib.ListN.{get_or}
-use Rattle.refusals.proofs.Homes.{MarkedBelow, marked_none, marked_more}
-use borrow.Author.Rules.{rules}
+use Rattle.refusals.proofs.Homes.{MarkedBelow}
 use Rattle.refusals.proofs.trees.marked_homes.Given as goal
 
 abbrev pub invariant-loop-i : goal.invariant-loop-i

@@ -1,7 +1,5 @@
 -- `refusals::trees::no_domains` meets its contract: the domains so far are unmarked.
-use Prim.Native.Nat.{◌≤◌, ◌-◌}
 use native.Mathlib.Omega.{arith}
-use Rattle.refusals.specs.Arrays.{NoDomains}
 use Rattle.refusals.proofs.Homes.{outside_first, outside_next, outside_all}
 use borrow.Author.Rules.{rules}
 use Rattle.refusals.proofs.trees.no_domains.Goals as goal

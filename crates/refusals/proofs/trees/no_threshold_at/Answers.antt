@@ -4,7 +4,6 @@ use native.Mathlib.Omega.{arith}
 use mathlib.Core.List.{[]}
 use Rattle.model.specs.Refusals.{no_threshold}
 use Rattle.refusals.proofs.Reading.{threshold_in}
-use borrow.Author.Rules.{rules}
 use Rattle.refusals.proofs.trees.no_threshold_at.Goals as goal
 
 pub returns-then-d-eq0 : goal.returns-then-d-eq0

@@ -1,9 +1,6 @@
 -- `refusals::trees::occupied` meets its contract: the parents of the marked domains so far are marked.
-use Prim.Native.Nat.{◌≤◌, ◌<◌}
 use native.Mathlib.Omega.{arith}
-use Rattle.refusals.specs.Arrays.{Lower, RealHomes}
-use Rattle.refusals.proofs.Occupying.{MarkedDown, down_first, down_marked, down_empty, down_all}
-use borrow.Author.Rules.{rules}
+use Rattle.refusals.proofs.Occupying.{down_first, down_marked, down_empty, down_all}
 use Rattle.refusals.proofs.trees.occupied.Goals as goal
 use Rattle.refusals.proofs.trees.occupied.Goals.{then-occupied-at, else-occupied-at}
 

@@ -1,10 +1,7 @@
 -- `refusals::trees::occupied` meets its contract: the parents of the marked domains so far are marked.
-use mathlib.Core.Logic.{⊎_elim}
 use Prim.Native.Nat.{◌≤◌, ◌<◌}
-use native.Mathlib.Omega.{arith}
 use Rattle.refusals.specs.Arrays.{Lower, RealHomes}
-use Rattle.refusals.proofs.Occupying.{MarkedDown, down_first, down_marked, down_empty, down_all}
-use borrow.Author.Rules.{rules}
+use Rattle.refusals.proofs.Occupying.{MarkedDown}
 use Rattle.refusals.proofs.trees.occupied.Given as goal
 
 abbrev pub invariant-loop-d : goal.invariant-loop-d

@@ -1,5 +1,5 @@
 -- `rows::acquire::draw` meets its contract: it draws a ticket, and starts a tenure if the grant shows it.
-use Rattle.std.proofs.Common.{refl, rules, eq-eqb, ne_eqb}
+use Rattle.std.proofs.Common.{refl, eq-eqb, ne_eqb}
 use Rattle.model.specs.Steps.{draw_row}
 use Rattle.rows.proofs.acquire.Acquiring.{root_own}
 use Rattle.rows.proofs.common.Counts.{entered, not_entered}

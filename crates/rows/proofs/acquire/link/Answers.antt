@@ -1,5 +1,5 @@
 -- `rows::acquire::link` meets its contract: it does Link.
-use Rattle.std.proofs.Common.{refl, rules}
+use Rattle.std.proofs.Common.{refl}
 use Rattle.model.specs.Steps.{link_row}
 use Rattle.rows.proofs.acquire.link.Goals as goal
 

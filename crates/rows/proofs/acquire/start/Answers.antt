@@ -1,5 +1,5 @@
 -- `rows::acquire::start` meets its contract: it draws at a ticket root, and does Prep elsewhere.
-use Rattle.std.proofs.Common.{sym, refl, ◌∙◌, rules, eq-eqb, ne_eqb}
+use Rattle.std.proofs.Common.{sym, refl, ◌∙◌, eq-eqb, ne_eqb}
 use Rattle.model.specs.States.{with_ticket}
 use Rattle.rows.specs.Common.Rows.{with_nexts}
 use Rattle.model.proofs.Trees.Tickets.{ticket_yes, ticket_lower, ticket_none}

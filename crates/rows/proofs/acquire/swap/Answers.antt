@@ -1,5 +1,5 @@
 -- `rows::acquire::swap` meets its contract: it does Swap, and starts a tenure if it finds no tail.
-use Rattle.std.proofs.Common.{refl, rules, eq-eqb, ne_eqb}
+use Rattle.std.proofs.Common.{refl, eq-eqb, ne_eqb}
 use Rattle.model.specs.Steps.{swap_row}
 use Rattle.rows.proofs.acquire.Acquiring.{acquire_is, acquire_no_link}
 use Rattle.rows.proofs.common.Counts.{entered, not_entered}

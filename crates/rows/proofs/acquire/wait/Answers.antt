@@ -1,5 +1,5 @@
 -- `rows::acquire::wait` meets its contract: it does Wait.
-use Rattle.std.proofs.Common.{refl, rules, eq-eqb, ne_eqb}
+use Rattle.std.proofs.Common.{refl, eq-eqb, ne_eqb}
 use Rattle.model.specs.Steps.{wait_row}
 use Rattle.rows.proofs.common.Staying.{unmoved}
 use Rattle.rows.proofs.acquire.Acquiring.{acquire_is}

@@ -1,5 +1,5 @@
 -- `rows::acquire::watch` meets its contract: it does Watch.
-use Rattle.std.proofs.Common.{◌≡◌, false, eqb, refl, rules, eq-eqb, ne_eqb}
+use Rattle.std.proofs.Common.{◌≡◌, false, eqb, refl, eq-eqb, ne_eqb}
 use Rattle.model.specs.States.{status}
 use Rattle.model.specs.Trees.{own_record}
 use Rattle.model.specs.Steps.{watch_row}

@@ -1,5 +1,5 @@
 -- `rows::common::member_at` meets its contract: the thread as a member of the domain.
-use Rattle.std.proofs.Common.{refl, ap, ◌∙◌, arith, rules}
+use Rattle.std.proofs.Common.{refl, ap, ◌∙◌, arith}
 use Rattle.model.specs.declared.Found.{Found}
 use Rattle.model.proofs.Laws.Search.{same_child_from}
 use Rattle.rows.proofs.common.member_at.Goals as goal

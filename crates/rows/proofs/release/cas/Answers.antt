@@ -1,5 +1,5 @@
 -- `rows::release::cas` meets its contract: it does Cas.
-use Rattle.std.proofs.Common.{refl, rules, eq-eqb, ne_eqb}
+use Rattle.std.proofs.Common.{refl, eq-eqb, ne_eqb}
 use Rattle.model.specs.Steps.{cas_row}
 use Rattle.rows.proofs.release.Leaving.{done_is}
 use Rattle.rows.proofs.release.cas.Goals as goal

@@ -1,5 +1,5 @@
 -- `rows::release::check` meets its contract: it does Check, and reports the length of a tenure that continues.
-use Rattle.std.proofs.Common.{refl, mod-eq_of_lt, rules, le-ltb, lt-ltb, eq-eqb, ne_eqb}
+use Rattle.std.proofs.Common.{refl, mod-eq_of_lt, le-ltb, lt-ltb, eq-eqb, ne_eqb}
 use Rattle.model.specs.Steps.{check_row}
 use Rattle.rows.proofs.release.Leaving.{release_is, release_no_grant}
 use Rattle.rows.proofs.release.check.Goals as goal

@@ -1,5 +1,5 @@
 -- `rows::release::grant` meets its contract: it does Grant.
-use Rattle.std.proofs.Common.{refl, rules}
+use Rattle.std.proofs.Common.{refl}
 use Rattle.model.specs.Steps.{grant_row}
 use Rattle.rows.proofs.release.Leaving.{done_is}
 use Rattle.rows.proofs.release.grant.Goals as goal

@@ -1,5 +1,5 @@
 -- `rows::release::help` meets its contract: it does Help.
-use Rattle.std.proofs.Common.{refl, rules, eq-eqb, ne_eqb}
+use Rattle.std.proofs.Common.{refl, eq-eqb, ne_eqb}
 use Rattle.model.specs.Steps.{help_row}
 use Rattle.rows.proofs.release.help.Goals as goal
 

@@ -1,5 +1,5 @@
 -- `rows::release::leave` meets its contract: the thread leaves.
-use Rattle.std.proofs.Common.{refl, rules}
+use Rattle.std.proofs.Common.{refl}
 use Rattle.model.specs.Steps.{leave_row}
 use Rattle.rows.proofs.release.Leaving.{release_is}
 use Rattle.rows.proofs.release.leave.Goals as goal

@@ -1,5 +1,5 @@
 -- `rows::release::linger` meets its contract: it does Linger.
-use Rattle.std.proofs.Common.{refl, rules, eq-eqb, ne_eqb}
+use Rattle.std.proofs.Common.{refl, eq-eqb, ne_eqb}
 use Rattle.model.specs.Steps.{linger_row}
 use Rattle.rows.proofs.common.Staying.{unmoved}
 use Rattle.rows.proofs.release.linger.Goals as goal

@@ -1,5 +1,5 @@
 -- `rows::release::raise` meets its contract: it does Raise.
-use Rattle.std.proofs.Common.{refl, rules}
+use Rattle.std.proofs.Common.{refl}
 use Rattle.model.specs.Steps.{raise_row}
 use Rattle.rows.proofs.release.Leaving.{root_done}
 use Rattle.rows.proofs.release.raise.Goals as goal

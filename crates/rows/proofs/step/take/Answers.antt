@@ -1,5 +1,5 @@
 -- `rows::step::take` meets its contract: each arm is the row of the place.
-use Rattle.std.proofs.Common.{cond, eqb, sym, refl, ap, ◌∙◌, arith, rules}
+use Rattle.std.proofs.Common.{cond, eqb, sym, refl, ap, ◌∙◌, arith}
 use Rattle.model.specs.declared.PlaceWords.{PlaceWords}
 use Rattle.rows.specs.Step.OneStep.{state_in}
 use Rattle.model.specs.declared.Place.TheVariants.{Idle, Prep, Swap, Link, Wait, Inside, Check, Help, Cas, Linger, Grant, Draw, Watch, Raise}

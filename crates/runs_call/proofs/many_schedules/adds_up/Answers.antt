@@ -1,10 +1,5 @@
 -- `runs_call::many_schedules::adds_up` meets its contract: at each turn, the entries left and the lengths left.
-use mathlib.Core.Path.{◌≡◌}
-use Prim.Native.Nat.{◌+◌, ◌-◌}
 use native.Mathlib.Omega.{arith}
-use lib.ListN.{length, drop}
-use borrow.Author.Rules.{rules}
-use Rattle.schedules.specs.Rows.{total}
 use Rattle.runs_call.proofs.many_schedules.Adding.{too_long, one_less, none_left}
 use Rattle.runs_call.proofs.many_schedules.adds_up.Goals as goal
 

@@ -6,7 +6,6 @@ use Rattle.refusals.proofs.Reading.{refusal_words_same}
 use Rattle.refusals.proofs.Scanning.{by_answer}
 use Rattle.runs_call.proofs.many_schedules.Answering.{tree_answered, total_answered, room_answered, acceptance_answered}
 use borrow.Author.Tests.{not-true, not-false}
-use borrow.Author.Rules.{rules}
 use Rattle.runs_call.proofs.many_schedules.many_refusal_of.Goals as goal
 
 pub returns-then-r-ne0 : goal.returns-then-r-ne0

@@ -1,6 +1,5 @@
 -- `runs_call::with_kinds::run_kinds` meets its contract: the run on the state's arrays, whose lengths the type fixes.
 use Rattle.lock.proofs.steps.Typing.{typed}
-use borrow.Author.Rules.{rules}
 use Rattle.runs_call.proofs.with_kinds.run_kinds.Goals as goal
 
 pub run_reported-r-requires : goal.run_reported-r-requires

@@ -1,9 +1,7 @@
 -- `runs_call::with_waits::greatest_divisor` meets its contract: each division keeps the greatest common divisor.
-use borrow.Author.Rules.{rules}
-use mathlib.Core.Path.{◌≡◌, refl, ◌∙◌}
+use mathlib.Core.Path.{refl, ◌∙◌}
 use native.Mathlib.Omega.{arith}
 use native.Mathlib.Nat.{mod-lt}
-use Rattle.waits.specs.Rows.{greatest_divisor}
 use Rattle.waits.proofs.Divisors.{euclid, euclid_ends}
 use Rattle.runs_call.proofs.with_waits.greatest_divisor.Goals as goal
 

@@ -1,10 +1,7 @@
 -- `runs_call::with_waits::lowest_bad_number` meets its contract: all numbers so far are valid.
-use mathlib.Core.Path.{sym, ◌∙◌}
 use Prim.Native.Nat.{◌-◌}
-use native.Mathlib.Omega.{arith}
-use borrow.Author.Rules.{rules}
 use Rattle.model.specs.Trees.{tree_of}
-use Rattle.refusals.proofs.Scanning.{Scanned, scan_begun, scan_goes_on, scan_found, scan_ended}
+use Rattle.refusals.proofs.Scanning.{Scanned}
 use Rattle.waits.specs.Refusals.{bad_under_way}
 use Rattle.runs_call.proofs.with_waits.lowest_bad_number.Given as goal
 

@@ -1,6 +1,5 @@
 -- `runs_call::with_waits::mean_of` meets its contract: 0 over 0 without attempts; otherwise the greatest common divisor is not 0, and both numbers are divided by it.
 use native.Mathlib.Omega.{arith}
-use borrow.Author.Rules.{rules}
 use borrow.Author.Tests.{eq-eqb, ne_eqb}
 use Rattle.waits.specs.Rows.{mean}
 use Rattle.waits.proofs.Divisors.{positive}

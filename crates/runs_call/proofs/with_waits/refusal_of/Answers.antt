@@ -4,7 +4,6 @@ use Rattle.model.specs.Refusals.{refusal}
 use Rattle.refusals.specs.Arrays.{refusal_words}
 use Rattle.lock.proofs.steps.CounterLimits.{passes_alone}
 use Rattle.runs_call.proofs.with_waits.Answering.{waits_answered, number_answered, counters_left, run_passes}
-use borrow.Author.Rules.{rules}
 use Rattle.runs_call.proofs.with_waits.refusal_of.Goals as goal
 
 pub returns-then-r-ne0 : goal.returns-then-r-ne0

@@ -3,7 +3,6 @@ use mathlib.Core.Path.{◌∙◌}
 use Rattle.waits.specs.GoingOn.{ZerosLaw}
 use Rattle.waits.proofs.Zeros.{zeros_law}
 use Rattle.lock.proofs.steps.Typing.{typed}
-use borrow.Author.Rules.{rules}
 use Rattle.runs_call.proofs.with_waits.run_waits.Goals as goal
 
 pub waits_tested-r-requires : goal.waits_tested-r-requires

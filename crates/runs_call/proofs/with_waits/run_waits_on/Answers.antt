@@ -1,6 +1,5 @@
 -- `runs_call::with_waits::run_waits_on` meets its contract: the run on the state's arrays, whose lengths the type fixes.
 use Rattle.lock.proofs.steps.Typing.{typed}
-use borrow.Author.Rules.{rules}
 use Rattle.runs_call.proofs.with_waits.run_waits_on.Goals as goal
 
 pub waits_tested-r-requires : goal.waits_tested-r-requires

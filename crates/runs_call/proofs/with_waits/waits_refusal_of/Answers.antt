@@ -2,7 +2,6 @@
 use Rattle.model.specs.Trees.{tree_of}
 use Rattle.model.specs.Refusals.{refusal}
 use Rattle.runs_call.proofs.with_waits.Answering.{run_answered, room_answered, acceptance_answered}
-use borrow.Author.Rules.{rules}
 use Rattle.runs_call.proofs.with_waits.waits_refusal_of.Goals as goal
 
 pub returns-then-r-ne0 : goal.returns-then-r-ne0

@@ -4,7 +4,6 @@ use Prim.Native.Nat.{◌-◌, ◌/◌, ◌≤◌}
 use native.Mathlib.Omega.{arith}
 use lib.ListN.{length}
 use lib.Seq.{length-take-le}
-use borrow.Author.Rules.{rules}
 use Rattle.lock_file.specs.FileAnswers.FileAnswers.{outcome_reply, outcome_output}
 use Rattle.file_calls.proofs.running.FileRun.{fresh_zero, run_in_buffers}
 use Rattle.file_calls.proofs.running.calling.run_in.Goals as goal

@@ -3,7 +3,6 @@ use native.Mathlib.Omega.{arith}
 use borrow.Author.Tests.{eq-eqb, ne_eqb}
 use Rattle.model.specs.Trees.{tree_of}
 use Rattle.lock_file.specs.FileWriter.Writing.{first_byte}
-use borrow.Author.Rules.{rules}
 use Rattle.file_calls.proofs.writing.writing.first_byte_of.Goals as goal
 
 pub returns-then-tree-eq0 : goal.returns-then-tree-eq0

@@ -3,9 +3,8 @@ use mathlib.Core.Path.{◌≡◌, ap, ◌∙◌}
 use Prim.Native.Nat.{◌+◌, suc}
 use native.Mathlib.Omega.{arith}
 use native.Mathlib.Numerals.{add-one}
-use lib.ListN.{length, set, length-set}
+use lib.ListN.{length, length-set}
 use Rattle.lock_file.proofs.file_writer.Entries.{domain_none, domain_threshold, domain_parent, domain_both}
-use borrow.Author.Rules.{rules}
 use Rattle.file_calls.proofs.writing.writing.put_domain.Goals as goal
 
 pub bounds-buffer-at : goal.bounds-buffer-at

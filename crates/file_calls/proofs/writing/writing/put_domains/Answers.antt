@@ -1,14 +1,11 @@
 -- `file_calls::writing::writing::put_domains` meets its contract: at each turn of the loop, what remains to write gives the result of the whole.
-use mathlib.Core.Path.{◌≡◌, refl, sym, ap, ◌∙◌}
+use mathlib.Core.Path.{refl, sym, ap, ◌∙◌}
 use mathlib.Core.List.{[]}
-use Prim.Native.Nat.{◌+◌, ◌-◌, ◌≤◌, ◌<◌}
+use Prim.Native.Nat.{◌<◌}
 use native.Mathlib.Omega.{arith}
 use lib.ListN.{length, get_or}
-use lib.Seq.{sets}
-use borrow.Author.Rules.{rules}
 use Rattle.refusals.specs.Arrays.{tree_in}
 use Rattle.refusals.proofs.Reading.{parent_in, threshold_in}
-use Rattle.lock_file.specs.FileWriter.Writing.{written_domains}
 use Rattle.file_calls.proofs.writing.Stored.{domains_over, domain_stored}
 use Rattle.file_calls.proofs.writing.writing.put_domains.Goals as goal
 
@@ -36,8 +33,7 @@ loop-d-preserved c = let a = c.args in
     domain_stored t.parent t.threshold a.domains c.loop-d.d (get_or a.parents.now c.loop-d.d 0) c.of_16_bits-threshold.result less
     (parent_in a.domains 0 a.parents.now a.thresholds.now [] c.loop-d.d some less)
     (threshold_in a.domains 0 a.parents.now a.thresholds.now [] c.loop-d.d some less c.of_16_bits-threshold.ensures.1 ∙ sym c.of_16_bits-threshold.ensures.0) c.loop-d.buffer c.loop-d.at
-    in
-    (
+    in (
       omega arith,
       omega arith,
       c.put_domain-at.auto.buffer ∙ c.loop-d.invariant.2,

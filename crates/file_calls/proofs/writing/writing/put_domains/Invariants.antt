@@ -1,15 +1,11 @@
 -- `file_calls::writing::writing::put_domains` meets its contract: at each turn of the loop, what remains to write gives the result of the whole.
-use mathlib.Core.Path.{◌≡◌, refl, sym, ap, ◌∙◌}
+use mathlib.Core.Path.{◌≡◌}
 use mathlib.Core.List.{[]}
-use Prim.Native.Nat.{◌+◌, ◌-◌, ◌≤◌, ◌<◌}
-use native.Mathlib.Omega.{arith}
-use lib.ListN.{length, get_or}
+use Prim.Native.Nat.{◌+◌, ◌-◌, ◌≤◌}
+use lib.ListN.{length}
 use lib.Seq.{sets}
-use borrow.Author.Rules.{rules}
 use Rattle.refusals.specs.Arrays.{tree_in}
-use Rattle.refusals.proofs.Reading.{parent_in, threshold_in}
 use Rattle.lock_file.specs.FileWriter.Writing.{written_domains}
-use Rattle.file_calls.proofs.writing.Stored.{domains_over, domain_stored}
 use Rattle.file_calls.proofs.writing.writing.put_domains.Given as goal
 
 abbrev pub invariant-loop-d : goal.invariant-loop-d

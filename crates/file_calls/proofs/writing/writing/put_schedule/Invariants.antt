@@ -1,12 +1,9 @@
 -- `file_calls::writing::writing::put_schedule` meets its contract: at each turn of the loop, what remains to write gives the result of the whole.
-use mathlib.Core.Path.{◌≡◌, refl, sym, ◌∙◌}
+use mathlib.Core.Path.{◌≡◌}
 use Prim.Native.Nat.{◌+◌, ◌*◌, ◌-◌, ◌≤◌}
-use native.Mathlib.Omega.{arith}
 use lib.ListN.{length, drop}
 use lib.Seq.{sets}
-use borrow.Author.Rules.{rules}
 use Rattle.lock_file.specs.FileWriter.Writing.{written_schedule}
-use Rattle.file_calls.proofs.writing.Stored.{schedule_over, entry_stored}
 use Rattle.file_calls.proofs.writing.writing.put_schedule.Given as goal
 
 abbrev pub invariant-loop-k : goal.invariant-loop-k

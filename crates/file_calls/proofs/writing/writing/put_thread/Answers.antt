@@ -4,7 +4,6 @@ use native.Mathlib.Omega.{arith}
 use native.Mathlib.Numerals.{add-one}
 use lib.ListN.{length, length-set}
 use Rattle.lock_file.proofs.file_writer.Entries.{thread_same, thread_other}
-use borrow.Author.Rules.{rules}
 use Rattle.file_calls.proofs.writing.writing.put_thread.Goals as goal
 
 pub bounds-buffer-at : goal.bounds-buffer-at

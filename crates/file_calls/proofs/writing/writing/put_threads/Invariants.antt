@@ -1,16 +1,11 @@
 -- `file_calls::writing::writing::put_threads` meets its contract: at each turn of the loop, what remains to write gives the result of the whole.
-use mathlib.Core.Path.{◌≡◌, refl, sym, ap, ◌∙◌}
+use mathlib.Core.Path.{◌≡◌}
 use mathlib.Core.List.{[]}
 use Prim.Native.Nat.{◌+◌, ◌-◌, ◌≤◌}
-use native.Mathlib.Omega.{arith}
-use native.Mathlib.Nat.{sub-zero}
-use lib.ListN.{length, get_or}
+use lib.ListN.{length}
 use lib.Seq.{sets}
-use borrow.Author.Rules.{rules}
 use Rattle.refusals.specs.Arrays.{tree_in}
-use Rattle.refusals.proofs.Reading.{home_in}
 use Rattle.lock_file.specs.FileWriter.Writing.{written_threads}
-use Rattle.file_calls.proofs.writing.Stored.{threads_over, thread_stored}
 use Rattle.file_calls.proofs.writing.writing.put_threads.Given as goal
 
 abbrev pub invariant-loop-i : goal.invariant-loop-i

@@ -3,7 +3,6 @@ use mathlib.Core.Path.{ap, ◌∙◌}
 use native.Mathlib.Omega.{arith}
 use lib.ListN.{length, length-set}
 use Rattle.file_calls.proofs.writing.Trees.{domains_same, threads_same, parts_length, tree_stored}
-use borrow.Author.Rules.{rules}
 use Rattle.file_calls.proofs.writing.writing.put_tree.Goals as goal
 
 pub bounds-buffer-0 : goal.bounds-buffer-0

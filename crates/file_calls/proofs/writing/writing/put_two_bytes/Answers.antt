@@ -1,8 +1,6 @@
 -- `file_calls::writing::writing::put_two_bytes` meets its contract: remainder and quotient by 256 fit in a byte each, and are stored in order.
 use native.Mathlib.Omega.{arith}
 use native.Mathlib.Numerals.{add-one}
-use lib.ListN.{length-set}
-use borrow.Author.Rules.{rules}
 use Rattle.file_calls.proofs.writing.writing.put_two_bytes.Goals as goal
 
 pub returns : goal.returns

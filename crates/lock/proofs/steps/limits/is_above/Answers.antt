@@ -1,10 +1,7 @@
 -- `lock::steps::limits::is_above` meets its contract: none of the counters so far is above 2^63.
-use mathlib.Core.Path.{◌≡◌, sym}
+use mathlib.Core.Path.{sym}
 use mathlib.Core.Bool.{false}
 use native.Mathlib.Omega.{arith}
-use Prim.Native.Nat.{ℕ, ◌≤◌, ◌<◌, ◌-◌}
-use Rattle.model.specs.Counters.{count_above}
-use Rattle.refusals.specs.OfRuns.Counts.{counters_in}
 use Rattle.refusals.proofs.Scanning.{one_more}
 use Rattle.lock.proofs.steps.Above.{entries_above, tenures_above, longest_above, not_above, none_above}
 use borrow.Author.Rules.{rules}

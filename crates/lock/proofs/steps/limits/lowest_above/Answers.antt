@@ -1,16 +1,10 @@
 -- `lock::steps::limits::lowest_above` meets its contract: the entries tried so far left no counter above 2^63.
 use mathlib.Core.Path.{sym, ◌∙◌}
-use Prim.Native.Nat.{◌-◌}
 use native.Mathlib.Omega.{arith}
-use lib.ListN.{length}
 use Rattle.model.specs.Trees.{tree_of}
-use Rattle.model.specs.Counters.{lock_state}
 use Rattle.model.proofs.Laws.Calls.{early_facts}
-use Rattle.refusals.specs.Arrays.{lent_state}
-use Rattle.refusals.specs.OfRuns.Counts.{counters_in}
 use Rattle.refusals.proofs.Scanning.{scan_found, scan_ended}
 use Rattle.lock.proofs.steps.Trying.{tried_start, tried_asks, tried_count, tried_next, Tries}
-use borrow.Author.Rules.{rules}
 use Rattle.lock.proofs.steps.limits.lowest_above.Goals as goal
 
 pub loop-k-init : goal.loop-k-init

@@ -1,6 +1,5 @@
 -- `lock::steps::limits::refusal_of` meets its contract: the tests before 19 refuse, or 19 decides.
 use Rattle.lock.proofs.steps.CounterLimits.{before_decides, before_passes, counters_decide}
-use borrow.Author.Rules.{rules}
 use Rattle.lock.proofs.steps.limits.refusal_of.Goals as goal
 
 pub returns-then-r-ne0 : goal.returns-then-r-ne0

@@ -1,6 +1,5 @@
 -- `lock::steps::run::domain_of_code` meets its contract: both rows without a domain are compared in turn.
 use borrow.Author.Tests.{eq-eqb, ne_eqb}
-use borrow.Author.Rules.{rules}
 use Rattle.lock.proofs.steps.run.domain_of_code.Goals as goal
 
 pub returns-then-row-eq0 : goal.returns-then-row-eq0

@@ -1,5 +1,4 @@
 -- `lock::steps::run::put_code` meets its contract: the step is reported if the buffer is long enough.
-use borrow.Author.Rules.{rules}
 use borrow.Author.Tests.{lt-ltb, le-ltb}
 use Rattle.lock.proofs.steps.run.put_code.Goals as goal
 

@@ -1,7 +1,6 @@
 -- `lock::steps::run::put_place` meets its contract: a stay stores nothing.
 use borrow.Author.Tests.{eq-eqb, ne_eqb}
 use Rattle.model.specs.States.{store_numbers}
-use borrow.Author.Rules.{rules}
 use Rattle.lock.proofs.steps.run.put_place.Goals as goal
 
 pub returns-then-kind-eq-STAY : goal.returns-then-kind-eq-STAY

@@ -1,25 +1,15 @@
 -- `lock::steps::run::run_lent` meets its contract: the entries so far have given the state, the trace, how many steps are of each kind and the counters of the domains.
-use mathlib.Core.Path.{refl, sym, ◌∙◌}
 use Prim.Native.Nat.{◌+◌, ◌-◌, ◌≤◌}
-use native.Mathlib.Omega.{arith}
 use lib.ListN.{length}
 use Rattle.model.specs.Trees.{tree_of}
 use Rattle.model.specs.States.{wrap}
-use Rattle.model.proofs.Laws.Calls.{early_facts}
-use Rattle.model.proofs.Trees.Accepted.{sixteen_bit}
 use Rattle.refusals.specs.OfRuns.Counts.{counters_in}
-use Rattle.refusals.proofs.of_runs.Passing.{shape_of}
 use Rattle.refusals.specs.Arrays.{places_in, lent_state}
 use Rattle.lock.specs.Steps.Counting.{Marked}
 use Rattle.rows.specs.Common.Counting.{Clear}
-use Rattle.lock.proofs.steps.SoFar.{SoFar, start, kind_room, now_placed, turn, state_ends, trace_ends, kinds_end, thread_at}
-use Rattle.lock.proofs.steps.Reporting.{Coded, codes_start, codes_turn, codes_end}
-use Rattle.lock.proofs.steps.Tallying.{Tallied, tallied_start, tallied_turn, tallied_ends}
-use Rattle.lock.proofs.steps.Turns.{thread_small, ready}
-use Rattle.rows.proofs.common.Shown.{clear_none}
-use Rattle.lock.proofs.steps.StepCounts.{step_counted}
-use Rattle.lock.proofs.steps.Looking.{entries_room, tenures_room, home_small, marked_start, marked_next, marks_cleared, shown_for, looked_real, home_is, raise_marked}
-use borrow.Author.Rules.{rules}
+use Rattle.lock.proofs.steps.SoFar.{SoFar}
+use Rattle.lock.proofs.steps.Reporting.{Coded}
+use Rattle.lock.proofs.steps.Tallying.{Tallied}
 use Rattle.lock.proofs.steps.run.run_lent.Given as goal
 
 abbrev pub invariant-loop-j : goal.invariant-loop-j

@@ -1,7 +1,6 @@
 -- `lock::steps::run::trace_at` meets its contract: an entry is written and counted, any other step is not.
 use mathlib.Core.Path.{sym, ◌∙◌}
 use native.Mathlib.Nat.{add-zero}
-use borrow.Author.Rules.{rules}
 use Rattle.lock.proofs.steps.run.trace_at.Goals as goal
 
 pub returns-then-is_entry : goal.returns-then-is_entry

@@ -1,7 +1,6 @@
 -- `refusals::of_runs::counters::good_count_at` meets its contract: zeros for the root and in unused slots, else each counter by its own bound.
 use mathlib.Core.Path.{◌∙◌}
 use borrow.Author.Tests.{eq-eqb, ne_eqb, lt-ltb, le-ltb, lt-leb, le-leb}
-use borrow.Author.Rules.{rules}
 use Rattle.refusals.proofs.of_runs.counters.good_count_at.Goals as goal
 
 pub returns-then-d-eq0 : goal.returns-then-d-eq0

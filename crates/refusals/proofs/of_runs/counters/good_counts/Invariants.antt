@@ -1,17 +1,11 @@
 -- `refusals::of_runs::counters::good_counts` meets its contract: the counters of all domains so far are good.
-use mathlib.Core.Path.{◌≡◌, sym}
-use mathlib.Core.Bool.{true, false}
+use mathlib.Core.Path.{◌≡◌}
+use mathlib.Core.Bool.{true}
 use mathlib.Core.List.{[]}
 use Prim.Native.Nat.{ℕ, ◌≤◌, ◌<◌, ◌-◌}
-use native.Mathlib.Omega.{arith}
-use borrow.Author.Tests.{not-true, not-false}
-use Rattle.model.specs.Counters.{good_count, good_counts}
-use Rattle.model.proofs.Tests.{all_true}
+use Rattle.model.specs.Counters.{good_count}
 use Rattle.refusals.specs.Arrays.{tree_in}
 use Rattle.refusals.specs.OfRuns.Counts.{counters_in}
-use Rattle.refusals.proofs.Scanning.{one_more, all_fails, by_answer}
-use Rattle.refusals.proofs.of_runs.Counts.{count_refusal_words}
-use borrow.Author.Rules.{rules}
 use Rattle.refusals.proofs.of_runs.counters.good_counts.Given as goal
 
 abbrev pub invariant-loop-d : goal.invariant-loop-d

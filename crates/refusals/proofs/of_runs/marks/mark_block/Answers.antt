@@ -1,10 +1,6 @@
 -- `refusals::of_runs::marks::mark_block` meets its contract: the marks so far are 0 only for threads that rest.
-use Prim.Native.Nat.{◌+◌, ◌≤◌, ◌-◌}
 use native.Mathlib.Omega.{arith}
-use Rattle.refusals.specs.Arrays.{places_in}
-use Rattle.refusals.specs.OfRuns.Tables.{RestMarks}
 use Rattle.refusals.proofs.of_runs.Marking.{marks_fewer, marks_next}
-use borrow.Author.Rules.{rules}
 use Rattle.refusals.proofs.of_runs.marks.mark_block.Goals as goal
 
 pub loop-k-init : goal.loop-k-init

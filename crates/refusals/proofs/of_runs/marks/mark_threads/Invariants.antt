@@ -1,11 +1,7 @@
 -- `refusals::of_runs::marks::mark_threads` meets its contract: the marks of all blocks so far are right.
-use mathlib.Core.Path.{refl}
 use Prim.Native.Nat.{◌*◌, ◌≤◌, ◌-◌}
-use native.Mathlib.Omega.{arith}
 use Rattle.refusals.specs.Arrays.{places_in}
 use Rattle.refusals.specs.OfRuns.Tables.{RestMarks}
-use Rattle.refusals.proofs.of_runs.Marking.{marks_none, marks_fewer}
-use borrow.Author.Rules.{rules}
 use Rattle.refusals.proofs.of_runs.marks.mark_threads.Given as goal
 
 abbrev pub invariant-loop-block : goal.invariant-loop-block

@@ -1,7 +1,6 @@
 -- `refusals::of_runs::owners::owners_of` meets its contract: the parents of the domains so far are in the table.
-use Prim.Native.Nat.{◌≤◌, ◌<◌, ◌-◌}
 use native.Mathlib.Omega.{arith}
-use Rattle.refusals.proofs.of_runs.Owning.{DomainOwners, domains_first, domains_next, domains_all}
+use Rattle.refusals.proofs.of_runs.Owning.{domains_first, domains_next, domains_all}
 use borrow.Author.Rules.{rules}
 use Rattle.refusals.proofs.of_runs.owners.owners_of.Goals as goal
 

@@ -1,7 +1,5 @@
 -- `refusals::of_runs::owners::thread_owners` meets its contract: the homes of the threads so far are in the table.
-use Prim.Native.Nat.{◌≤◌, ◌-◌}
 use native.Mathlib.Omega.{arith}
-use Rattle.refusals.specs.OfRuns.Tables.{ThreadOwners}
 use Rattle.refusals.proofs.of_runs.Owning.{threads_first, threads_next, threads_all}
 use borrow.Author.Rules.{rules}
 use Rattle.refusals.proofs.of_runs.owners.thread_owners.Goals as goal

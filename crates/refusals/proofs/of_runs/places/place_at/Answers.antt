@@ -1,7 +1,6 @@
 -- `refusals::of_runs::places::place_at` meets its contract.
 use mathlib.Core.Path.{refl}
 use Rattle.model.specs.States.{numbers_at}
-use borrow.Author.Rules.{rules}
 use Rattle.refusals.proofs.of_runs.places.place_at.Goals as goal
 
 pub returns : goal.returns

@@ -1,5 +1,4 @@
 -- `refusals::of_runs::shapes::has_spare_word` meets its contract: the word is tested for 0, then the row is tested.
-use borrow.Author.Rules.{rules}
 use borrow.Author.Tests.{eq-eqb, ne_eqb}
 use Rattle.refusals.proofs.of_runs.shapes.has_spare_word.Goals as goal
 

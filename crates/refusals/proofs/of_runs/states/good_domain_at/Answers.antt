@@ -2,7 +2,6 @@
 use mathlib.Core.Bool.{true, false}
 use borrow.Author.Tests.{not-true, not-false}
 use Rattle.refusals.proofs.Scanning.{by_answer}
-use borrow.Author.Rules.{rules}
 use Rattle.refusals.proofs.of_runs.states.good_domain_at.Goals as goal
 
 pub returns-then-is_barred_at : goal.returns-then-is_barred_at

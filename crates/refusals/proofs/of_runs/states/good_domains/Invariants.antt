@@ -1,14 +1,9 @@
 -- `refusals::of_runs::states::good_domains` meets its contract: the words of all domains so far are good.
-use mathlib.Core.Path.{◌≡◌, sym}
-use mathlib.Core.Bool.{true, false}
+use mathlib.Core.Path.{◌≡◌}
+use mathlib.Core.Bool.{true}
 use Prim.Native.Nat.{ℕ, ◌+◌, ◌≤◌, ◌<◌, ◌-◌}
-use native.Mathlib.Omega.{arith}
 use lib.ListN.{get_or}
-use borrow.Author.Tests.{not-true, not-false}
-use Rattle.model.proofs.Tests.{all_true}
 use Rattle.refusals.specs.OfRuns.Tables.{tail_and_next_in}
-use Rattle.refusals.proofs.Scanning.{one_more, all_fails, by_answer}
-use borrow.Author.Rules.{rules}
 use Rattle.refusals.proofs.of_runs.states.good_domains.Given as goal
 
 abbrev pub invariant-loop-d : goal.invariant-loop-d

@@ -2,7 +2,6 @@
 use Prim.Native.Nat.{◌-◌}
 use native.Mathlib.Omega.{arith}
 use borrow.Author.Tests.{eq-eqb, ne_eqb, lt-ltb, le-ltb}
-use borrow.Author.Rules.{rules}
 use Rattle.refusals.proofs.of_runs.states.good_next_at.Goals as goal
 
 pub returns-then-n-eq0 : goal.returns-then-n-eq0

@@ -1,6 +1,5 @@
 -- `refusals::of_runs::states::good_peer_at` meets its contract: the row decides: a member's record, or 0.
 use mathlib.Core.Path.{sym, ◌∙◌}
-use borrow.Author.Rules.{rules}
 use Rattle.refusals.proofs.of_runs.states.good_peer_at.Goals as goal
 
 pub returns-then-has_peer : goal.returns-then-has_peer

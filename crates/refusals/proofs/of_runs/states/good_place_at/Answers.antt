@@ -3,7 +3,6 @@ use mathlib.Core.Bool.{true, false}
 use borrow.Author.Tests.{eq-eqb, ne_eqb, lt-ltb, le-ltb}
 use Rattle.refusals.specs.OfRuns.Tables.{place_in}
 use Rattle.refusals.proofs.Scanning.{by_answer}
-use borrow.Author.Rules.{rules}
 use Rattle.refusals.proofs.of_runs.states.good_place_at.Goals as goal
 
 pub returns-then-row-gt10 : goal.returns-then-row-gt10

@@ -2,7 +2,6 @@
 use mathlib.Core.Bool.{true, false}
 use borrow.Author.Tests.{not-true, not-false}
 use Rattle.refusals.proofs.Scanning.{by_answer}
-use borrow.Author.Rules.{rules}
 use Rattle.refusals.proofs.of_runs.states.good_thread_at.Goals as goal
 
 pub returns-then-not-good_next_at : goal.returns-then-not-good_next_at

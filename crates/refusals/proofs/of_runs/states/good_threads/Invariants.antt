@@ -1,17 +1,11 @@
 -- `refusals::of_runs::states::good_threads` meets its contract: all threads so far have good records and places.
-use mathlib.Core.Path.{◌≡◌, sym}
-use mathlib.Core.Bool.{true, false}
+use mathlib.Core.Path.{◌≡◌}
+use mathlib.Core.Bool.{true}
 use Prim.Native.Nat.{ℕ, ◌≤◌, ◌<◌, ◌-◌}
-use native.Mathlib.Omega.{arith}
 use lib.ListN.{get_or}
-use borrow.Author.Tests.{not-true, not-false}
 use Rattle.model.specs.States.{numbers_at}
-use Rattle.model.proofs.Tests.{all_true}
 use Rattle.refusals.specs.Arrays.{parents_in, places_in}
-use Rattle.refusals.specs.OfRuns.Tables.{Rest, used_in}
-use Rattle.refusals.proofs.Scanning.{one_more, all_fails, by_answer}
-use Rattle.refusals.proofs.of_runs.Resting.{rests_good}
-use borrow.Author.Rules.{rules}
+use Rattle.refusals.specs.OfRuns.Tables.{used_in}
 use Rattle.refusals.proofs.of_runs.states.good_threads.Given as goal
 
 abbrev pub invariant-loop-i : goal.invariant-loop-i

@@ -1,7 +1,6 @@
 -- `refusals::of_runs::states::good_ticket_place_at` meets its contract: each return follows from the tests before it; in Watch the status of the record at the root decides.
 use borrow.Author.Tests.{eq-eqb, ne_eqb, lt-ltb, le-ltb}
 use Rattle.refusals.specs.OfRuns.Tables.{ticket_place_in}
-use borrow.Author.Rules.{rules}
 use Rattle.refusals.proofs.of_runs.states.good_ticket_place_at.Goals as goal
 
 pub returns-then-ticket_root-eq0 : goal.returns-then-ticket_root-eq0

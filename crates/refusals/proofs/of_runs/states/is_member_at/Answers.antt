@@ -1,6 +1,5 @@
 -- `refusals::of_runs::states::is_member_at` meets its contract: no record from 320 on; below, the owner at its index decides.
 use borrow.Author.Tests.{lt-ltb, le-ltb}
-use borrow.Author.Rules.{rules}
 use Rattle.refusals.proofs.of_runs.states.is_member_at.Goals as goal
 
 pub returns-then-at-ge320 : goal.returns-then-at-ge320

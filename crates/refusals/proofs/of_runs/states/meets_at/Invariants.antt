@@ -1,11 +1,8 @@
 -- `refusals::of_runs::states::meets_at` meets its contract: the remaining fuel and the domain reached give the same answer as the whole search.
-use mathlib.Core.Path.{◌≡◌, refl, sym, ◌∙◌}
+use mathlib.Core.Path.{◌≡◌}
 use Prim.Native.Nat.{◌≤◌, ◌<◌}
-use native.Mathlib.Omega.{arith}
 use Rattle.model.specs.Trees.{meets}
 use Rattle.refusals.specs.Arrays.{parents_in}
-use Rattle.refusals.proofs.Meeting.{meets_here, meets_root, meets_up, meets_end}
-use borrow.Author.Rules.{rules}
 use Rattle.refusals.proofs.of_runs.states.meets_at.Given as goal
 
 abbrev pub invariant-loop-left : goal.invariant-loop-left

@@ -1,11 +1,8 @@
 -- `refusals::of_runs::unused::any_half` meets its contract: the numbers so far are all 0 exactly if their OR is.
 use mathlib.Core.Path.{◌≡◌}
 use Prim.Native.Nat.{◌≤◌, ◌-◌}
-use native.Mathlib.Omega.{arith}
 use lib.Dec.{eqb}
 use Rattle.refusals.specs.OfRuns.Tables.{zeros_between}
-use Rattle.refusals.proofs.of_runs.Folds.{zeros_none, zeros_next, zeros_all}
-use borrow.Author.Rules.{rules}
 use Rattle.refusals.proofs.of_runs.unused.any_half.Given as goal
 
 abbrev pub invariant-loop-k : goal.invariant-loop-k

@@ -2,7 +2,6 @@
 use mathlib.Core.Bool.{true, false}
 use borrow.Author.Tests.{eq-eqb, ne_eqb}
 use Rattle.refusals.proofs.Scanning.{by_answer}
-use borrow.Author.Rules.{rules}
 use Rattle.refusals.proofs.of_runs.unused.are_places_clear.Goals as goal
 
 pub returns-then-any_byte-ne0 : goal.returns-then-any_byte-ne0

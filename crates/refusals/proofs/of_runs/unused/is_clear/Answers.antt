@@ -2,7 +2,6 @@
 use mathlib.Core.Bool.{true, false}
 use borrow.Author.Tests.{not-true, not-false}
 use Rattle.refusals.proofs.Scanning.{by_answer}
-use borrow.Author.Rules.{rules}
 use Rattle.refusals.proofs.of_runs.unused.is_clear.Goals as goal
 
 pub returns-then-not-are_places_clear : goal.returns-then-not-are_places_clear

@@ -1,6 +1,6 @@
 -- `rows::common::counting::count_entry` counts level by level up to the root.
-use Rattle.std.proofs.Common.{arith, rules}
-use Rattle.rows.proofs.common.Counts.{Climbs, climbs_start, climbs_on, climbs_end}
+use Rattle.std.proofs.Common.{arith}
+use Rattle.rows.proofs.common.Counts.{climbs_start, climbs_on, climbs_end}
 use Rattle.rows.proofs.common.counting.count_entry.Goals as goal
 
 pub loop-c-init : goal.loop-c-init

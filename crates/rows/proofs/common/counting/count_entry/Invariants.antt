@@ -1,6 +1,5 @@
 -- `rows::common::counting::count_entry` counts level by level up to the root.
-use Rattle.std.proofs.Common.{arith, rules}
-use Rattle.rows.proofs.common.Counts.{Climbs, climbs_start, climbs_on, climbs_end}
+use Rattle.rows.proofs.common.Counts.{Climbs}
 use Rattle.rows.proofs.common.counting.count_entry.Given as goal
 
 abbrev pub invariant-loop-c : goal.invariant-loop-c

@@ -1,5 +1,4 @@
 -- `rows::common::counting::count_given` meets its contract: it starts a tenure of the domain that owns the record.
-use Rattle.std.proofs.Common.{rules}
 use Rattle.rows.proofs.common.counting.count_given.Goals as goal
 
 pub count_start-requires : goal.count_start-requires

@@ -1,5 +1,5 @@
 -- `rows::common::counting::count_length` meets its contract: the larger of the two numbers is stored.
-use Rattle.std.proofs.Common.{sym, rules, eq-eqb, ne_eqb}
+use Rattle.std.proofs.Common.{sym, eq-eqb, ne_eqb}
 use Rattle.rows.proofs.common.Counts.{larger_kept, larger_taken}
 use Rattle.rows.proofs.common.counting.count_length.Goals as goal
 

@@ -1,6 +1,5 @@
 -- `rows::common::counting::count_shown` meets its contract: the domains so far are counted where they are marked.
-use Rattle.std.proofs.Common.{◌≡◌, ℕ, ◌-◌, ◌≤◌, false, get_or, refl, arith, rules}
-use Rattle.rows.specs.Common.Counting.{CountedShown}
+use Rattle.std.proofs.Common.{◌≡◌, false, get_or, refl, arith, rules}
 use Rattle.rows.proofs.common.Counts.{counted_none, counted_next, unmoved, meant}
 use Rattle.rows.proofs.common.Shown.{clear_none, counted_all, unmarked_counted, unmarked_clear}
 use Rattle.rows.proofs.common.counting.count_shown.Goals as goal
@@ -31,10 +30,10 @@ loop-d-smaller c = omega (arith, c.loop-d-test.true)
 
 pub loop-d-preserved : goal.loop-d-preserved
 loop-d-preserved c = let own = c.domain_if-c.ensures.value in (
-      omega (arith, c.loop-d-test.true),
-      counted_next _ _ _ _ _ _ c.loop-d.invariant.1 _ own _ _ c.count_start.ensures c.count_length.ensures,
-      unmoved c.loop-d.d _ (get_or c.args.shown.now c.loop-d.d false) own c.args.tenures.now _ _ c.count_start.ensures c.loop-d.invariant.2,
-    )
+  omega (arith, c.loop-d-test.true),
+  counted_next _ _ _ _ _ _ c.loop-d.invariant.1 _ own _ _ c.count_start.ensures c.count_length.ensures,
+  unmoved c.loop-d.d _ (get_or c.args.shown.now c.loop-d.d false) own c.args.tenures.now _ _ c.count_start.ensures c.loop-d.invariant.2,
+)
 
 pub returns : goal.returns
 returns c = let z : c.loop-d.d ≡ c.args.domains = omega (arith, c.loop-d-test.false, c.loop-d.invariant.0) in

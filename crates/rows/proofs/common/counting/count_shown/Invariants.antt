@@ -1,8 +1,6 @@
 -- `rows::common::counting::count_shown` meets its contract: the domains so far are counted where they are marked.
-use Rattle.std.proofs.Common.{◌≡◌, ℕ, ◌-◌, ◌≤◌, false, get_or, refl, arith, rules}
+use Rattle.std.proofs.Common.{◌≡◌, ℕ, ◌-◌, ◌≤◌, get_or}
 use Rattle.rows.specs.Common.Counting.{CountedShown}
-use Rattle.rows.proofs.common.Counts.{counted_none, counted_next, unmoved, meant}
-use Rattle.rows.proofs.common.Shown.{clear_none, counted_all, unmarked_counted, unmarked_clear}
 use Rattle.rows.proofs.common.counting.count_shown.Given as goal
 
 abbrev pub invariant-loop-d : goal.invariant-loop-d

@@ -1,5 +1,5 @@
 -- `rows::common::counting::count_start` meets its contract: nothing is stored for domain 0, one more for any other, which fits.
-use Rattle.std.proofs.Common.{arith, rules, eq-eqb, ne_eqb}
+use Rattle.std.proofs.Common.{arith, eq-eqb, ne_eqb}
 use Rattle.rows.proofs.common.counting.count_start.Goals as goal
 
 pub returns-then-d-eq0 : goal.returns-then-d-eq0

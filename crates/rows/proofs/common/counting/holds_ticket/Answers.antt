@@ -1,5 +1,5 @@
 -- `rows::common::counting::holds_ticket` meets its contract: no record of the domains so far has the ticket.
-use Rattle.std.proofs.Common.{ℕ, ◌+◌, ◌-◌, ◌<◌, ◌≤◌, ◌≢◌, get_or, sym, arith, rules}
+use Rattle.std.proofs.Common.{sym, arith, rules}
 use mathlib.Core.Bool.{false≢true}
 use Rattle.rows.proofs.common.Shown.{one_more_differs}
 use Rattle.rows.proofs.common.counting.holds_ticket.Goals as goal

@@ -1,5 +1,5 @@
 -- `rows::common::counting::looked_at` meets its contract: none for a step that is not a raise; for a raise all, or none if `holds_ticket` finds no record with the ticket.
-use Rattle.std.proofs.Common.{refl, rules}
+use Rattle.std.proofs.Common.{refl}
 use Rattle.rows.proofs.common.counting.looked_at.Goals as goal
 
 pub returns-then-holds_ticket : goal.returns-then-holds_ticket

@@ -2,7 +2,7 @@
 use borrow.Author.Tests.{not-true, not-false}
 use Rattle.refusals.proofs.Scanning.{by_answer}
 use Rattle.rows.proofs.common.Counts.{not_marked, is_marked}
-use Rattle.std.proofs.Common.{true, false, rules}
+use Rattle.std.proofs.Common.{true, false}
 use Rattle.rows.proofs.common.counting.mark_shown.Goals as goal
 
 pub returns-then-not-is_watch_at : goal.returns-then-not-is_watch_at

@@ -1,5 +1,5 @@
 -- `rows::common::counting::taken_at` meets its contract: 0 at home, else the result of the search.
-use Rattle.std.proofs.Common.{ap, ◌∙◌, arith, rules, eq-eqb, ne_eqb}
+use Rattle.std.proofs.Common.{ap, ◌∙◌, arith, eq-eqb, ne_eqb}
 use Rattle.model.proofs.Laws.Search.{same_child_from}
 use Rattle.rows.proofs.common.counting.taken_at.Goals as goal
 

@@ -1,5 +1,4 @@
 -- `rows::common::places::words_at` meets its contract, place by place.
-use Rattle.std.proofs.Common.{rules}
 use Rattle.rows.proofs.common.places.words_at.Goals as goal
 
 pub returns-in-Idle : goal.returns-in-Idle

@@ -1,5 +1,4 @@
 -- `rows::common::rows::moves` meets its contract: the kind and the numbers of a place.
-use Rattle.std.proofs.Common.{rules}
 use Rattle.rows.proofs.common.rows.moves.Goals as goal
 
 pub returns : goal.returns

@@ -1,9 +1,6 @@
 -- `runs_call::many_schedules::many::put_row` meets its contract: eight stores in order.
-use native.Mathlib.Omega.{arith}
-use lib.ListN.{length-set}
 use mathlib.Core.List.{[], ◌∷◌}
 use Rattle.model.proofs.Storing.{stored}
-use borrow.Author.Rules.{rules}
 use Rattle.runs_call.proofs.many_schedules.many.put_row.Goals as goal
 
 pub returns : goal.returns

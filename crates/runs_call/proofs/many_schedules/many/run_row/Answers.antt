@@ -4,7 +4,6 @@ use native.Mathlib.Omega.{arith}
 use lib.Seq.{sets}
 use Rattle.lock.proofs.steps.Starting.{zeros_fresh, zeros_typed}
 use Rattle.runs_call.proofs.many_schedules.FreshRow.{row_refuses, steps_pass, kinds_of_row, row_answered}
-use borrow.Author.Rules.{rules}
 use Rattle.runs_call.proofs.many_schedules.many.run_row.Goals as goal
 
 pub returns-then-r-ne0 : goal.returns-then-r-ne0

@@ -2,8 +2,8 @@
 use mathlib.Core.Path.{◌≡◌, refl, ap, ◌∙◌}
 use Prim.Native.Nat.{◌+◌, ◌-◌}
 use native.Mathlib.Omega.{arith}
-use lib.ListN.{length, take, drop, get_or}
-use Rattle.runs_call.proofs.many_schedules.Storing.{SoFar, start, next_fits, turn, ends}
+use lib.ListN.{take, drop, get_or}
+use Rattle.runs_call.proofs.many_schedules.Storing.{start, next_fits, turn, ends}
 use borrow.Author.Rules.{rules}
 use Rattle.runs_call.proofs.many_schedules.many.run_rows.Goals as goal
 

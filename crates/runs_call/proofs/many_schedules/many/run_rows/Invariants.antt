@@ -1,10 +1,8 @@
 -- `runs_call::many_schedules::many::run_rows` meets its contract: the rows stored so far, and those left.
-use mathlib.Core.Path.{◌≡◌, refl, ap, ◌∙◌}
-use Prim.Native.Nat.{◌+◌, ◌-◌}
-use native.Mathlib.Omega.{arith}
-use lib.ListN.{length, take, drop, get_or}
-use Rattle.runs_call.proofs.many_schedules.Storing.{SoFar, start, next_fits, turn, ends}
-use borrow.Author.Rules.{rules}
+use mathlib.Core.Path.{◌≡◌}
+use Prim.Native.Nat.{◌-◌}
+use lib.ListN.{length}
+use Rattle.runs_call.proofs.many_schedules.Storing.{SoFar}
 use Rattle.runs_call.proofs.many_schedules.many.run_rows.Given as goal
 
 abbrev pub invariant-loop-k : goal.invariant-loop-k

@@ -1,6 +1,5 @@
 -- `runs_call::with_kinds::reporting::domain_of` meets its contract: both rows without a domain are compared in turn.
 use borrow.Author.Tests.{eq-eqb, ne_eqb}
-use borrow.Author.Rules.{rules}
 use Rattle.runs_call.proofs.with_kinds.reporting.domain_of.Goals as goal
 
 pub returns-then-row-eq0 : goal.returns-then-row-eq0

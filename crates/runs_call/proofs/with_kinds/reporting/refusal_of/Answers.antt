@@ -1,7 +1,6 @@
 -- `runs_call::with_kinds::reporting::refusal_of` meets its contract: the tests before 28 refuse, or 28 does, or 19 decides.
 use Rattle.model.specs.Refusals.{refusal}
 use Rattle.runs_call.proofs.with_kinds.Refused.{run_answered, room_answered, alone, counters_answered}
-use borrow.Author.Rules.{rules}
 use Rattle.runs_call.proofs.with_kinds.reporting.refusal_of.Goals as goal
 
 pub returns-then-r-ne0 : goal.returns-then-r-ne0

@@ -5,7 +5,6 @@ use Rattle.lock.proofs.steps.Answering.{early_passes, kinds_few}
 use Rattle.model.specs.Refusals.{refusal}
 use Rattle.runs_call.specs.WithKinds.Spreading.{reported_beside}
 use Rattle.runs_call.proofs.with_kinds.Answering.{reported_refuses, as_run, short, codes_fit, threads_fit, rows_reported, reported_answered}
-use borrow.Author.Rules.{rules}
 use Rattle.runs_call.proofs.with_kinds.reporting.run_reported.Goals as goal
 
 pub returns-then-r-ne0 : goal.returns-then-r-ne0

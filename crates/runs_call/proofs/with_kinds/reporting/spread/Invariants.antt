@@ -1,11 +1,7 @@
 -- `runs_call::with_kinds::reporting::spread` meets its contract: the steps from a given one on have two numbers each.
-use mathlib.Core.Path.{◌≡◌}
-use Prim.Native.Nat.{◌+◌, ◌-◌, ◌*◌, ◌%◌, ◌≤◌}
-use native.Mathlib.Omega.{arith}
-use lib.ListN.{length, get_or, length-set}
-use borrow.Author.Rules.{rules}
+use Prim.Native.Nat.{◌≤◌}
+use lib.ListN.{length}
 use Rattle.runs_call.specs.WithKinds.Spreading.{Spread}
-use Rattle.runs_call.proofs.with_kinds.Spreading.{spread_none, spread_one}
 use Rattle.runs_call.proofs.with_kinds.reporting.spread.Given as goal
 
 abbrev pub invariant-loop-k : goal.invariant-loop-k

@@ -4,7 +4,6 @@ use native.Mathlib.Omega.{arith}
 use Rattle.model.specs.Trees.{tree_of}
 use Rattle.runs_call.specs.WithWaits.Reported.{waits_reported}
 use Rattle.runs_call.proofs.with_waits.Waited.{waits_refuse, waits_pass, waits_kinds_few, waits_threads_few, waits_answered}
-use borrow.Author.Rules.{rules}
 use Rattle.runs_call.proofs.with_waits.tested.waits_tested.Goals as goal
 
 pub refusal_of-r-requires : goal.refusal_of-r-requires

@@ -1,7 +1,6 @@
 -- `runs_call::with_waits::waiting::begins_at` meets its contract: Idle or Draw if the home is a ticket root, otherwise Swap at the home, each by its test.
 use borrow.Author.Tests.{eq-eqb, ne_eqb}
 use Rattle.runs_call.specs.WithWaits.Tallies.{begins_number}
-use borrow.Author.Rules.{rules}
 use Rattle.runs_call.proofs.with_waits.waiting.begins_at.Goals as goal
 
 pub returns-then-place-eq0 : goal.returns-then-place-eq0

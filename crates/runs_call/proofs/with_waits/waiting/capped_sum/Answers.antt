@@ -1,6 +1,5 @@
 -- `runs_call::with_waits::waiting::capped_sum` meets its contract: capped if the sum exceeds 64 bits.
 use native.Mathlib.Omega.{arith}
-use borrow.Author.Rules.{rules}
 use Rattle.waits.specs.Rows.{capped}
 use Rattle.runs_call.proofs.with_waits.waiting.capped_sum.Goals as goal
 

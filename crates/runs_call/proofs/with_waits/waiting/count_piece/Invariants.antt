@@ -1,8 +1,7 @@
 -- `runs_call::with_waits::waiting::count_piece` meets its contract: the steps so far are counted.
 use Prim.Native.Nat.{◌-◌}
 use lib.ListN.{length}
-use borrow.Author.Rules.{rules}
-use Rattle.runs_call.proofs.with_waits.Counting.{CountedSoFar, counted_start, thread_small, codes_long, entered_few, note_fits, counted_read, counted_ends}
+use Rattle.runs_call.proofs.with_waits.Counting.{CountedSoFar}
 use Rattle.runs_call.proofs.with_waits.waiting.count_piece.Given as goal
 
 abbrev pub invariant-loop-k : goal.invariant-loop-k

@@ -1,5 +1,4 @@
 -- `runs_call::with_waits::waiting::mark_of` meets its contract: 0 for 0, otherwise 2^63 + 2 minus the number.
-use borrow.Author.Rules.{rules}
 use borrow.Author.Tests.{eq-eqb, ne_eqb}
 use Rattle.runs_call.specs.WithWaits.Tallies.{mark_of}
 use Rattle.runs_call.proofs.with_waits.waiting.mark_of.Goals as goal

@@ -1,5 +1,4 @@
 -- `runs_call::with_waits::waiting::mark_with` meets its contract: one more than the entries, or the mark unchanged, by its test.
-use borrow.Author.Rules.{rules}
 use Rattle.runs_call.proofs.with_waits.waiting.mark_with.Goals as goal
 
 pub returns-then-begins : goal.returns-then-begins

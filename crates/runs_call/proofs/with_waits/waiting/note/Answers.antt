@@ -3,7 +3,6 @@ use mathlib.Core.Path.{sym, ◌∙◌}
 use native.Mathlib.Omega.{arith}
 use borrow.Author.Tests.{eq-eqb, ne_eqb, not-true, not-false}
 use Rattle.runs_call.proofs.with_waits.Counting.{mark_fits}
-use borrow.Author.Rules.{rules}
 use Rattle.runs_call.proofs.with_waits.waiting.note.Goals as goal
 
 pub returns-then-not-enters : goal.returns-then-not-enters

@@ -1,5 +1,4 @@
 -- `runs_call::with_waits::waiting::number_of` meets its contract: 0 for mark 0, otherwise one more than the entries since.
-use borrow.Author.Rules.{rules}
 use borrow.Author.Tests.{eq-eqb, ne_eqb}
 use Rattle.runs_call.specs.WithWaits.Tallies.{number_of}
 use Rattle.runs_call.proofs.with_waits.waiting.number_of.Goals as goal

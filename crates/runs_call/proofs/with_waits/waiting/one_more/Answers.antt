@@ -1,7 +1,6 @@
 -- `runs_call::with_waits::waiting::one_more` meets its contract: 1 or 0 more, by its test; the sum fits.
 use mathlib.Core.Path.{sym}
 use native.Mathlib.Nat.{add-zero}
-use borrow.Author.Rules.{rules}
 use Rattle.runs_call.proofs.with_waits.waiting.one_more.Goals as goal
 
 pub returns-then-enters : goal.returns-then-enters

@@ -1,8 +1,6 @@
 -- `runs_call::with_waits::waiting::put_numbers` meets its contract: the numbers stored so far.
-use Prim.Native.Nat.{◌-◌}
 use native.Mathlib.Omega.{arith}
-use borrow.Author.Rules.{rules}
-use Rattle.runs_call.proofs.with_waits.Writing.{Numbered, numbered_start, numbered_turn, numbered_ends}
+use Rattle.runs_call.proofs.with_waits.Writing.{numbered_start, numbered_turn, numbered_ends}
 use Rattle.runs_call.proofs.with_waits.waiting.put_numbers.Goals as goal
 
 pub loop-k-init : goal.loop-k-init

@@ -1,10 +1,7 @@
 -- `runs_call::with_waits::waiting::put_row` meets its contract: five stores in order.
-use native.Mathlib.Omega.{arith}
-use lib.ListN.{length-set}
 use Rattle.waits.specs.Rows.{row_with}
 use mathlib.Core.List.{[], ◌∷◌}
 use Rattle.model.proofs.Storing.{stored}
-use borrow.Author.Rules.{rules}
 use Rattle.runs_call.proofs.with_waits.waiting.put_row.Goals as goal
 
 pub returns : goal.returns

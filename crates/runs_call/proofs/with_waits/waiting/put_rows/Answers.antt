@@ -1,9 +1,6 @@
 -- `runs_call::with_waits::waiting::put_rows` meets its contract: the rows stored so far.
-use Prim.Native.Nat.{◌-◌}
 use native.Mathlib.Omega.{arith}
-use borrow.Author.Rules.{rules}
-use Rattle.waits.specs.Rows.{row_with}
-use Rattle.runs_call.proofs.with_waits.Writing.{Written, written_start, written_turn, written_long, written_ends, row_room}
+use Rattle.runs_call.proofs.with_waits.Writing.{written_start, written_turn, written_ends, row_room}
 use Rattle.runs_call.proofs.with_waits.waiting.put_rows.Goals as goal
 
 pub loop-k-init : goal.loop-k-init

@@ -1,14 +1,9 @@
 -- `runs_call::with_waits::waiting::run_counted` meets its contract: the pieces so far are run and counted.
 use Prim.Native.Nat.{◌-◌}
-use native.Mathlib.Omega.{arith}
 use lib.ListN.{length}
-use borrow.Author.Rules.{rules}
-use Rattle.model.specs.Trees.{tree_of}
-use Rattle.model.proofs.Laws.Calls.{run_facts}
 use Rattle.refusals.specs.Arrays.{lent_state}
 use Rattle.refusals.specs.OfRuns.Counts.{counters_in}
-use Rattle.runs_call.specs.WithWaits.Tallies.{rows_by}
-use Rattle.runs_call.proofs.with_waits.Pieces.{InPieces, pieces_start, trace_long, part_room, from_first, entered_small, attempts_table, marks_fit, sets_long, state_ends, counters_end, kinds_end, trace_ends, rows_are, numbers_are, piece_runs, kinds_fit, countable, pieces_turn, threads_few}
+use Rattle.runs_call.proofs.with_waits.Pieces.{InPieces}
 use Rattle.runs_call.proofs.with_waits.waiting.run_counted.Given as goal
 
 abbrev pub invariant-loop-from : goal.invariant-loop-from

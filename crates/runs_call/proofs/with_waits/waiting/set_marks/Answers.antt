@@ -1,12 +1,11 @@
 -- `runs_call::with_waits::waiting::set_marks` meets its contract: the marks so far are those of their numbers.
 use mathlib.Core.Path.{◌≡◌, ◌∙◌}
 use mathlib.Core.List.{List}
-use Prim.Native.Nat.{ℕ, ◌+◌, ◌-◌, ◌≤◌, ◌<◌}
+use Prim.Native.Nat.{ℕ, ◌+◌, ◌<◌}
 use native.Mathlib.Omega.{arith}
 use native.Mathlib.Decide.{ℕ_discrete}
-use lib.ListN.{length, get_or, set, length-set}
+use lib.ListN.{get_or, set, length-set}
 use lib.Seq.{get_or-set_same, get_or-set_other}
-use borrow.Author.Rules.{rules}
 use Rattle.runs_call.specs.WithWaits.Tallies.{mark_of}
 use Rattle.runs_call.proofs.with_waits.waiting.set_marks.Invariants.{SetSoFar}
 use Rattle.runs_call.proofs.with_waits.waiting.set_marks.Goals as goal
