@@ -76,10 +76,10 @@ fn copied(from: &Path, to: &Path) {
     assert!(done.success(), "{} is copied", from.display());
 }
 
-/// Every file except those of computed cases: a case with a different input is not a different definition.
+/// Every change in every file except those of computed cases: a case with a different input is not a different definition.
 fn all(folder: &Path) -> Vec<Mutant> {
-    let mut files: Vec<PathBuf> = fs::read_dir(folder).expect("the crate has specs/").map(|entry| entry.expect("an entry").path()).collect();
-    files.retain(|file| !file.to_string_lossy().ends_with("Cases.antt"));
+    let mut files = Vec::new();
+    definitions(folder, &mut files);
     files.sort();
     let mut found = Vec::new();
     for file in files {
@@ -87,6 +87,18 @@ fn all(folder: &Path) -> Vec<Mutant> {
         found.extend(changes(&text).into_iter().map(|change| Mutant { file: file.clone(), change }));
     }
     found
+}
+
+fn definitions(folder: &Path, files: &mut Vec<PathBuf>) {
+    for entry in fs::read_dir(folder).expect("the crate has specs/") {
+        let path = entry.expect("an entry").path();
+        let of_cases = path.file_stem().is_some_and(|name| name.to_string_lossy().ends_with("Cases"));
+        if path.is_dir() && !of_cases {
+            definitions(&path, files);
+        } else if !of_cases && path.extension().is_some_and(|kind| kind == "antt") {
+            files.push(path);
+        }
+    }
 }
 
 fn shuffle(mutants: &mut [Mutant], random: &mut Random) {
