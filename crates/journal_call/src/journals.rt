@@ -202,7 +202,7 @@ fn check_piece(
     }
 }
 
-// Goes through a journal with one reader, piece by piece. It has no branch except the loop's own: its proof is by hand, since the reader holds the journal.
+// Goes through a journal with one reader, piece by piece.
 fn walk_entries(
     tree: TreeWords,
     journal: &[u8],
