@@ -63,8 +63,8 @@ pub(crate) fn run_tested(
 ) -> Ran
     requires { Typed (lent_state tails.old nexts.old statuses.old rows.old domains.old peers.old words.old ticket.old granted.old) }
     ensures result_value { let before = lent_lock tails.old nexts.old statuses.old rows.old domains.old peers.old words.old ticket.old granted.old entries.old tenures.old longest.old in
-        let before-words = lent_state tails.old nexts.old statuses.old rows.old domains.old peers.old words.old ticket.old granted.old in
-        result ≡ run_reported (run_answer tree before schedule.now trace.old) (steps (tree_of tree) schedule.now before-words) }
+        let before_words = lent_state tails.old nexts.old statuses.old rows.old domains.old peers.old words.old ticket.old granted.old in
+        result ≡ run_reported (run_answer tree before schedule.now trace.old) (steps (tree_of tree) schedule.now before_words) }
     ensures after_after { let before = lent_lock tails.old nexts.old statuses.old rows.old domains.old peers.old words.old ticket.old granted.old entries.old tenures.old longest.old in
         let after = lent_lock tails.new nexts.new statuses.new rows.new domains.new peers.new words.new ticket.new granted.new entries.new tenures.new longest.new in
         after ≡ (run_answer tree before schedule.now trace.old).state }

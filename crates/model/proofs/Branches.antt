@@ -11,7 +11,7 @@ use Rattle.model.specs.declared.Place.TheVariants.{Idle, Prep, Swap, Link, Wait,
 use Rattle.model.specs.declared.State.{State}
 use Rattle.model.specs.Trees.{Tree, is_ticket, own_record}
 use Rattle.model.specs.States.{acquire_parent, wait_word, unlocked, locked, root_word, none, tail, next, status, wrap, with_tail, with_next, with_status, with_place, with_ticket, with_grant}
-use Rattle.model.specs.Steps.{other, root_entry, passed_Entry, crossed_entry, leaving, unchanged, begins, ends, RowResult, stays, moves, enters, release_place, done_place, release_word, shown_members, prep_with, acquires_parent, swap_at_root, prep_row, swap_row, link_row, wait_row, leave_row, check_row, help_row, cas_row, linger_row, grant_row, draw_row, watch_row, raise_row, row}
+use Rattle.model.specs.Steps.{other, root_entry, passed_entry, crossed_entry, leaving, unchanged, begins, ends, RowResult, stays, moves, enters, release_place, done_place, release_word, shown_members, prep_with, acquires_parent, swap_at_root, prep_row, swap_row, link_row, wait_row, leave_row, check_row, help_row, cas_row, linger_row, grant_row, draw_row, watch_row, raise_row, row}
 use Rattle.model.proofs.Tests.{by_test}
 
 module _ (t : Tree) (i : ℕ) (s : State) where
@@ -61,7 +61,7 @@ pub data Branch (t : Tree) (i : ℕ) (s : State) : Place → RowResult → Type 
   wait_acquires : (l : ℕ) → l ≢ 0 → status s (own_record t i l) ≡ acquire_parent → Branch t i s (Wait l) (acquires_parent t i l s)
   wait_passed :
       (l : ℕ) → l ≢ 0 → status s (own_record t i l) ≢ wait_word → status s (own_record t i l) ≢ acquire_parent → l ≡ t.home i →
-      Branch t i s (Wait l) (enters passed_Entry i s)
+      Branch t i s (Wait l) (enters passed_entry i s)
   wait_crossed :
       (l : ℕ) → l ≢ 0 → status s (own_record t i l) ≢ wait_word → status s (own_record t i l) ≢ acquire_parent → l ≢ t.home i →
       Branch t i s (Wait l) (enters crossed_entry i s)
@@ -122,7 +122,7 @@ module _ (t : Tree) (i : ℕ) (s : State) where
       (λ z. let inner = eqb-false l 0 z in
       by_test (Of (Wait l)) (eqb v wait_word) _ _ (λ e. wait_ungranted l inner (eqb-true v wait_word e))
       (λ e. by_test (Of (Wait l)) (eqb v acquire_parent) _ _ (λ f. wait_acquires l inner (eqb-true v acquire_parent f))
-      (λ f. by_test (λ k. Of (Wait l) (enters k i s)) (eqb l (t.home i)) passed_Entry crossed_entry
+      (λ f. by_test (λ k. Of (Wait l) (enters k i s)) (eqb l (t.home i)) passed_entry crossed_entry
       (λ g. wait_passed l inner (eqb-false v wait_word e) (eqb-false v acquire_parent f) (eqb-true l (t.home i) g))
       (λ g. wait_crossed l inner (eqb-false v wait_word e) (eqb-false v acquire_parent f) (eqb-false l (t.home i) g)))))
 

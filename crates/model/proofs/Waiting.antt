@@ -9,7 +9,7 @@ use Rattle.model.specs.declared.Place.TheVariants.{Wait}
 use Rattle.model.specs.declared.State.{State}
 use Rattle.model.specs.Trees.{Tree, own_record}
 use Rattle.model.specs.States.{acquire_parent, wait_word, locked, root_word, status}
-use Rattle.model.specs.Steps.{Kind, root_entry, passed_Entry, crossed_entry, is_entry, RowResult, stays, enters, acquires_parent, wait_row}
+use Rattle.model.specs.Steps.{Kind, root_entry, passed_entry, crossed_entry, is_entry, RowResult, stays, enters, acquires_parent, wait_row}
 use Rattle.model.proofs.Branches.{Branch, wait_root_locked, wait_root_granted, wait_ungranted, wait_acquires, wait_passed, wait_crossed, wait_branch}
 
 module _ (t : Tree) (i : ℕ) (s : State) where
@@ -51,5 +51,5 @@ module _ (t : Tree) (i : ℕ) (s : State) where
       by (wait_root_granted _ z e) = granted_root z
       by (wait_ungranted _ z e) = absurd (omega (arith, g z))
       by (wait_acquires _ z e) = absurd (omega (arith, g z))
-      by (wait_passed _ z e y a) = granted_inner z passed_Entry refl
+      by (wait_passed _ z e y a) = granted_inner z passed_entry refl
       by (wait_crossed _ z e y a) = granted_inner z crossed_entry refl

@@ -9,7 +9,7 @@ use Rattle.model.specs.declared.Place.TheVariants.{Idle, Swap, Wait, Inside, Dra
 use Rattle.model.specs.Trees.{Tree, tree_of, is_ticket, on_path, is_member, under}
 use Rattle.model.specs.Places.{words_of, same_row}
 use Rattle.model.specs.States.{acquire_parent, wait_word, status, place, fresh_state, numbers_at, PlacesRoom}
-use Rattle.model.specs.Steps.{stay, root_entry, passed_Entry, crossed_entry, leaving, is_entry, Step, step}
+use Rattle.model.specs.Steps.{stay, root_entry, passed_entry, crossed_entry, leaving, is_entry, Step, step}
 use Rattle.model.specs.Runs.{steps, Run, run_of, run, occurrences}
 use Rattle.model.specs.WellFormed.{well_formed}
 use Rattle.model.specs.Answers.{step_answer, run_answer}
@@ -116,7 +116,7 @@ pub record ReportsKind (t : Tree) (i : ℕ) (s : State) : Type 0 where
       ((step t i s).kind ≡ root_entry)
       ⟺ ((place (step t i s).state i ≡ Inside) × EntersRoot t i (place s i))
   pub passed_exactly :
-      ((step t i s).kind ≡ passed_Entry)
+      ((step t i s).kind ≡ passed_entry)
       ⟺ ((place (step t i s).state i ≡ Inside) × ((t.home i ≢ 0) × (place s i ≡ Wait (t.home i))))
   pub crossed_exactly :
       ((step t i s).kind ≡ crossed_entry)

@@ -3,7 +3,7 @@ use Rattle.std.specs.Prelude.{Bool, cond, List, [], ◌∷◌, ◌++◌, ℕ, �
 use Rattle.model.specs.declared.State.{State}
 use Rattle.model.specs.declared.Counts.{Counts}
 use Rattle.model.specs.Trees.{Tree, under}
-use Rattle.model.specs.Steps.{Kind, stay, root_entry, passed_Entry, crossed_entry, is_kind, is_entry, Standing, unchanged, begins, ends, Step, step}
+use Rattle.model.specs.Steps.{Kind, stay, root_entry, passed_entry, crossed_entry, is_kind, is_entry, Standing, unchanged, begins, ends, Step, step}
 
 -- the steps of a schedule from a state, in order
 unfoldable pub steps : Tree → (schedule : List ℕ) → State → List Step
@@ -33,7 +33,7 @@ counts_of xs =
       entries = how_many is_entry xs;
       stays = how_many (is_kind stay) xs;
       root = how_many (is_kind root_entry) xs;
-      passed = how_many (is_kind passed_Entry) xs;
+      passed = how_many (is_kind passed_entry) xs;
       crossed = how_many (is_kind crossed_entry) xs;
     }
 

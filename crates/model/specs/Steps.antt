@@ -10,14 +10,14 @@ use Rattle.model.specs.States.{cohort_start, acquire_parent, wait_word, unlocked
 
 -- the kind of a step: a stay, another move, a root entry, a passed entry, a crossed entry, or leaving
 pub data Kind : Type 0 where
-  stay other root_entry passed_Entry crossed_entry leaving : Kind
+  stay other root_entry passed_entry crossed_entry leaving : Kind
 
 -- the number of a kind
 abbrev pub kind_number : Kind → ℕ
 kind_number stay = 0
 kind_number other = 1
 kind_number root_entry = 2
-kind_number passed_Entry = 3
+kind_number passed_entry = 3
 kind_number crossed_entry = 4
 kind_number leaving = 5
 
@@ -30,7 +30,7 @@ unfoldable pub is_entry : Kind → Bool
 is_entry stay = false
 is_entry other = false
 is_entry root_entry = true
-is_entry passed_Entry = true
+is_entry passed_entry = true
 is_entry crossed_entry = true
 is_entry leaving = false
 
@@ -128,7 +128,7 @@ link_row t i l p s = moves (with_place i (Wait l) (with_next p (own_record t i l
 
 -- the kind of an entry from Wait below the root: passed at the thread's home, crossed between home and root
 abbrev pub passing_kind : Tree → (thread domain : ℕ) → Kind
-passing_kind t i l = cond (eqb l (t.home i)) passed_Entry crossed_entry
+passing_kind t i l = cond (eqb l (t.home i)) passed_entry crossed_entry
 
 -- Wait at the root: it stays while the status is LOCKED, and goes Inside with any other
 abbrev pub wait_at_root : Tree → (thread domain : ℕ) → State → RowResult

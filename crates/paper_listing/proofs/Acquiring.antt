@@ -13,7 +13,7 @@ use Rattle.model.specs.declared.State.{State}
 use Rattle.model.specs.Trees.{Tree, is_ticket, own_record}
 use Rattle.model.specs.Places.{words_of, place_of}
 use Rattle.model.specs.States.{acquire_parent, wait_word, locked, tail, status, place, store_numbers, HasRoom}
-use Rattle.model.specs.Steps.{Kind, passed_Entry, crossed_entry, RowResult, enters, acquire_place}
+use Rattle.model.specs.Steps.{Kind, passed_entry, crossed_entry, RowResult, enters, acquire_place}
 use Rattle.model.proofs.Branches as branches
 use Rattle.model.proofs.Branches.{stood_after, Branch, prepares, swap_root, swap_inner, swap_joins, link_writes, wait_root_locked, wait_root_granted, wait_ungranted, wait_acquires, wait_passed, wait_crossed, below_root}
 use Rattle.model.proofs.Trees.Index.{ancestor, height, record_at}
@@ -208,6 +208,6 @@ module _ (t : Tree) (valid : Accepted t) (i : ℕ) (h : i < t.threads) (s : Stat
       (rw (ancestor_parent_of t valid i h k b) at (wait_climbs t i (ancestor t i k) (record_at t i k) (acquire_back k) (acquire_callers t i k) (memory_of s) (ne_eqb v wait_word (λ f. omega arith)) (le-ltb v acquire_parent (omega arith)))) refl
       (moved refl) (climb_control k b))
   wait_together k l q w (wait_passed _ z n o _) =
-      rw (ne_eqb (ancestor t i k) 0 z) (granted_together k l passed_Entry w (rw (own_record_at t valid i h k l) at n) (rw (own_record_at t valid i h k l) at o))
+      rw (ne_eqb (ancestor t i k) 0 z) (granted_together k l passed_entry w (rw (own_record_at t valid i h k l) at n) (rw (own_record_at t valid i h k l) at o))
   wait_together k l q w (wait_crossed _ z n o _) =
       rw (ne_eqb (ancestor t i k) 0 z) (granted_together k l crossed_entry w (rw (own_record_at t valid i h k l) at n) (rw (own_record_at t valid i h k l) at o))

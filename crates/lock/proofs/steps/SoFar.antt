@@ -14,7 +14,7 @@ use Rattle.model.specs.declared.State.{State}
 use Rattle.model.specs.Trees.{Tree}
 use Rattle.model.specs.States.{place, store_numbers}
 use Rattle.model.specs.Refusals.{tree_refusal}
-use Rattle.model.specs.Steps.{Kind, stay, other, root_entry, passed_Entry, crossed_entry, leaving, kind_number, is_kind, is_entry, Step, row, step}
+use Rattle.model.specs.Steps.{Kind, stay, other, root_entry, passed_entry, crossed_entry, leaving, kind_number, is_kind, is_entry, Step, row, step}
 use Rattle.model.specs.Runs.{steps, state_after, how_many, entering, counts_of, run_of, run}
 use Rattle.model.specs.Laws.{AllThreads, SixteenBit, Formed, FormLaw, KindLaw}
 use Rattle.model.proofs.Trees.Accepted.{accepted}
@@ -33,7 +33,7 @@ pub kind_small : (k : Kind) → kind_number k < 6
 kind_small stay = omega arith
 kind_small other = omega arith
 kind_small root_entry = omega arith
-kind_small passed_Entry = omega arith
+kind_small passed_entry = omega arith
 kind_small crossed_entry = omega arith
 kind_small leaving = omega arith
 
@@ -42,7 +42,7 @@ unfolding is_entry
 entry_number stay = refl
 entry_number other = refl
 entry_number root_entry = refl
-entry_number passed_Entry = refl
+entry_number passed_entry = refl
 entry_number crossed_entry = refl
 entry_number leaving = refl
 
@@ -50,21 +50,21 @@ zero_stay : (k : Kind) → kind_number k ≡ 0 → k ≡ stay
 zero_stay stay e = refl
 zero_stay other e = absurd (omega arith)
 zero_stay root_entry e = absurd (omega arith)
-zero_stay passed_Entry e = absurd (omega arith)
+zero_stay passed_entry e = absurd (omega arith)
 zero_stay crossed_entry e = absurd (omega arith)
 zero_stay leaving e = absurd (omega arith)
 
 -- COUNTS by kind, with one more step
 count_kind :
     (k : Kind) (a b c d f g : ℕ) →
-    (a + cond (is_kind stay k) 1 0) ∷ (b + cond (is_kind other k) 1 0) ∷ (c + cond (is_kind root_entry k) 1 0) ∷ (d + cond (is_kind passed_Entry k) 1 0)
+    (a + cond (is_kind stay k) 1 0) ∷ (b + cond (is_kind other k) 1 0) ∷ (c + cond (is_kind root_entry k) 1 0) ∷ (d + cond (is_kind passed_entry k) 1 0)
     ∷ (f + cond (is_kind crossed_entry k) 1 0) ∷ (g + cond (is_kind leaving k) 1 0) ∷ []
     ≡ counted (a ∷ b ∷ c ∷ d ∷ f ∷ g ∷ []) (kind_number k)
 unfolding is_kind
 count_kind stay a b c d f g = rw (add-zero b, add-zero c, add-zero d, add-zero f, add-zero g)
 count_kind other a b c d f g = rw (add-zero a, add-zero c, add-zero d, add-zero f, add-zero g)
 count_kind root_entry a b c d f g = rw (add-zero a, add-zero b, add-zero d, add-zero f, add-zero g)
-count_kind passed_Entry a b c d f g = rw (add-zero a, add-zero b, add-zero c, add-zero f, add-zero g)
+count_kind passed_entry a b c d f g = rw (add-zero a, add-zero b, add-zero c, add-zero f, add-zero g)
 count_kind crossed_entry a b c d f g = rw (add-zero a, add-zero b, add-zero c, add-zero d, add-zero g)
 count_kind leaving a b c d f g = rw (add-zero a, add-zero b, add-zero c, add-zero d, add-zero f)
 
@@ -73,8 +73,8 @@ unfolding kinds_of how_many
 kinds_next xs x =
     let one : (f : Kind → Bool) → how_many f (xs ++ (x ∷ [])) ≡ how_many f xs + cond (f x.kind) 1 0 =
     λ f. how_many_join f xs (x ∷ []) ∙ ap (λ v. how_many f xs + v) (add-zero (cond (f x.kind) 1 0)) in
-    rw (one (is_kind stay), one (is_kind other), one (is_kind root_entry), one (is_kind passed_Entry), one (is_kind crossed_entry), one (is_kind leaving))
-    (count_kind x.kind (how_many (is_kind stay) xs) (how_many (is_kind other) xs) (how_many (is_kind root_entry) xs) (how_many (is_kind passed_Entry) xs) (how_many (is_kind crossed_entry) xs) (how_many (is_kind leaving) xs))
+    rw (one (is_kind stay), one (is_kind other), one (is_kind root_entry), one (is_kind passed_entry), one (is_kind crossed_entry), one (is_kind leaving))
+    (count_kind x.kind (how_many (is_kind stay) xs) (how_many (is_kind other) xs) (how_many (is_kind root_entry) xs) (how_many (is_kind passed_entry) xs) (how_many (is_kind crossed_entry) xs) (how_many (is_kind leaving) xs))
 
 -- no kind has more steps than there are
 pub at_most : (b : Bool) → cond b 1 0 ≤ 1
@@ -86,7 +86,7 @@ unfolding kinds_of
 kind_at stay xs = refl
 kind_at other xs = refl
 kind_at root_entry xs = refl
-kind_at passed_Entry xs = refl
+kind_at passed_entry xs = refl
 kind_at crossed_entry xs = refl
 kind_at leaving xs = refl
 
@@ -94,17 +94,17 @@ one_long : (b : Bool) (i : ℕ) → length (cond b (i ∷ []) [] ++ []) ≡ cond
 one_long true i = refl
 one_long false i = refl
 
-one_kind : (k : Kind) → cond (is_kind stay k) 1 0 + cond (is_kind other k) 1 0 + cond (is_kind root_entry k) 1 0 + cond (is_kind passed_Entry k) 1 0 + cond (is_kind crossed_entry k) 1 0 + cond (is_kind leaving k) 1 0 ≡ 1
+one_kind : (k : Kind) → cond (is_kind stay k) 1 0 + cond (is_kind other k) 1 0 + cond (is_kind root_entry k) 1 0 + cond (is_kind passed_entry k) 1 0 + cond (is_kind crossed_entry k) 1 0 + cond (is_kind leaving k) 1 0 ≡ 1
 unfolding is_kind
 one_kind stay = refl
 one_kind other = refl
 one_kind root_entry = refl
-one_kind passed_Entry = refl
+one_kind passed_entry = refl
 one_kind crossed_entry = refl
 one_kind leaving = refl
 
 -- the counts of all kinds add up to the steps, and those of the entry kinds to the entries
-kinds_all : (xs : List Step) → how_many (is_kind stay) xs + how_many (is_kind other) xs + how_many (is_kind root_entry) xs + how_many (is_kind passed_Entry) xs + how_many (is_kind crossed_entry) xs + how_many (is_kind leaving) xs ≡ length xs
+kinds_all : (xs : List Step) → how_many (is_kind stay) xs + how_many (is_kind other) xs + how_many (is_kind root_entry) xs + how_many (is_kind passed_entry) xs + how_many (is_kind crossed_entry) xs + how_many (is_kind leaving) xs ≡ length xs
 unfolding how_many
 kinds_all [] = refl
 kinds_all (x ∷ xs) = omega (arith, kinds_all xs, one_kind x.kind)
@@ -129,7 +129,7 @@ unfolding is_entry
 front_kind stay T b n i e h = rw (append-nil T)
 front_kind other T b n i e h = rw (append-nil T)
 front_kind root_entry T b n i e h = front_next T b n i e h
-front_kind passed_Entry T b n i e h = front_next T b n i e h
+front_kind passed_entry T b n i e h = front_next T b n i e h
 front_kind crossed_entry T b n i e h = front_next T b n i e h
 front_kind leaving T b n i e h = rw (append-nil T)
 

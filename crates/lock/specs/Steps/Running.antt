@@ -6,14 +6,14 @@ use Rattle.model.specs.declared.State.{State}
 use Rattle.model.specs.Places.{words_of}
 use Rattle.model.specs.States.{store_numbers, fresh_words, with_ticket, with_grant}
 use Rattle.model.specs.declared.Counts.{Counts}
-use Rattle.model.specs.Steps.{stay, other, root_entry, passed_Entry, crossed_entry, leaving, kind_number, is_kind, Step}
+use Rattle.model.specs.Steps.{stay, other, root_entry, passed_entry, crossed_entry, leaving, kind_number, is_kind, Step}
 use Rattle.model.specs.Runs.{how_many, Run}
 use Rattle.rows.specs.Common.Standing.{is_entry_number}
 
 -- how many steps are of each kind, in the order of the kind numbers
 unfoldable pub kinds_of : List Step → List ℕ
 kinds_of xs =
-    how_many (is_kind stay) xs ∷ how_many (is_kind other) xs ∷ how_many (is_kind root_entry) xs ∷ how_many (is_kind passed_Entry) xs
+    how_many (is_kind stay) xs ∷ how_many (is_kind other) xs ∷ how_many (is_kind root_entry) xs ∷ how_many (is_kind passed_entry) xs
     ∷ how_many (is_kind crossed_entry) xs ∷ how_many (is_kind leaving) xs ∷ []
 
 -- one more step of a kind

@@ -13,7 +13,7 @@ use Rattle.model.specs.declared.State.{State}
 use Rattle.model.specs.Trees.{Tree, tree_of}
 use Rattle.model.specs.States.{fresh_words}
 use Rattle.model.specs.Counters.{fresh_lock}
-use Rattle.model.specs.Steps.{is_kind, is_entry, stay, root_entry, passed_Entry, crossed_entry, step}
+use Rattle.model.specs.Steps.{is_kind, is_entry, stay, root_entry, passed_entry, crossed_entry, step}
 use Rattle.model.specs.Runs.{steps, how_many, entering, counts_of, run_of, run}
 use Rattle.model.specs.Refusals.{Refusal, refusal, tree_tests, has_number, run_refusal}
 use Rattle.model.specs.Answers.{counters_after_run, run_reply, run_answer}
@@ -67,7 +67,7 @@ module _ (w : TreeWords) (is : List ℕ) (short : length is ≤ 32768) where
         entries = omega (arith, how_many_most is_entry xs);
         stays = omega (arith, how_many_most (is_kind stay) xs);
         root = omega (arith, how_many_most (is_kind root_entry) xs);
-        passed = omega (arith, how_many_most (is_kind passed_Entry) xs);
+        passed = omega (arith, how_many_most (is_kind passed_entry) xs);
         crossed = omega (arith, how_many_most (is_kind crossed_entry) xs);
       }
 

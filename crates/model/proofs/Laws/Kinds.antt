@@ -12,7 +12,7 @@ use Rattle.model.specs.declared.State.{State}
 use Rattle.model.specs.Trees.{Tree, is_ticket, on_path, child, own_record}
 use Rattle.model.specs.Places.{words_of}
 use Rattle.model.specs.States.{tail, next, status, place, with_place}
-use Rattle.model.specs.Steps.{Kind, stay, other, root_entry, passed_Entry, crossed_entry, leaving, kind_number, is_kind, is_entry, RowResult, acquire_place, acquired_place, release_place, done_place, row, step}
+use Rattle.model.specs.Steps.{Kind, stay, other, root_entry, passed_entry, crossed_entry, leaving, kind_number, is_kind, is_entry, RowResult, acquire_place, acquired_place, release_place, done_place, row, step}
 use Rattle.model.specs.WellFormed.{good_place}
 use Rattle.model.specs.Laws.{EntersRoot, by_swap, by_wait, by_draw, by_watch, by_own_draw, ReportsKind, KindLaw}
 use Rattle.model.proofs.Tests.{by_test, and_both, or_neither}
@@ -41,7 +41,7 @@ pub data Outcome (t : Tree) (s : State) (i : ℕ) (p : Place) (x : RowResult) : 
   moved : (q : Place) → x.kind ≡ other → place x.state i ≡ q → MovesTo p q → p ≢ Inside → Outcome t s i p x
   left : (q : Place) → x.kind ≡ leaving → place x.state i ≡ q → MovesTo p q → p ≡ Inside → Outcome t s i p x
   entered_root : x.kind ≡ root_entry → place x.state i ≡ Inside → EntersRoot t i p → Outcome t s i p x
-  entered_passed : x.kind ≡ passed_Entry → place x.state i ≡ Inside → (t.home i ≢ 0) × (p ≡ Wait (t.home i)) → Outcome t s i p x
+  entered_passed : x.kind ≡ passed_entry → place x.state i ≡ Inside → (t.home i ≢ 0) × (p ≡ Wait (t.home i)) → Outcome t s i p x
   entered_crossed :
       x.kind ≡ crossed_entry → place x.state i ≡ Inside → (l : ℕ) × (l ≢ 0) × (l ≢ t.home i) × (p ≡ Wait l) → Outcome t s i p x
 
@@ -180,7 +180,7 @@ unfolding is_kind
 stay_named stay e = refl
 stay_named other e = absurd (false≢true e)
 stay_named root_entry e = absurd (false≢true e)
-stay_named passed_Entry e = absurd (false≢true e)
+stay_named passed_entry e = absurd (false≢true e)
 stay_named crossed_entry e = absurd (false≢true e)
 stay_named leaving e = absurd (false≢true e)
 
@@ -291,7 +291,7 @@ module _ (t : Tree) (i : ℕ) (s : State) where
   reports (entered_passed e f m) =
       record {
         stays_exactly = (λ g. never (cc), λ g. never (home_not_inside m (sym (ap (λ x. place x i) g) ∙ f)));
-        enters_exactly = (λ _. (f, λ g. never (home_not_inside m g)), λ _. kind_entry kind passed_Entry e refl);
+        enters_exactly = (λ _. (f, λ g. never (home_not_inside m g)), λ _. kind_entry kind passed_entry e refl);
         root_exactly = (λ g. never (cc), λ g. never (root_not_home g.1 m));
         passed_exactly = (λ _. (f, m), λ _. e);
         crossed_exactly = (λ g. never (cc), λ g. never (home_not_between m g.1));

@@ -15,7 +15,7 @@ use Rattle.model.specs.declared.LockState.{LockState}
 use Rattle.model.specs.Trees.{Tree, tree_of, on_path, is_member}
 use Rattle.model.specs.Places.{words_of, place_domain}
 use Rattle.model.specs.States.{place, numbers_at}
-use Rattle.model.specs.Steps.{Kind, stay, root_entry, passed_Entry, crossed_entry, kind_number, is_kind, Step, step}
+use Rattle.model.specs.Steps.{Kind, stay, root_entry, passed_entry, crossed_entry, kind_number, is_kind, Step, step}
 use Rattle.model.specs.Runs.{steps, state_after, how_many, counts_of, run_of, run, occurrences}
 use Rattle.model.specs.WellFormed.{queue_on_path, good_place}
 use Rattle.model.specs.Counters.{lock_state, counters_after, good_counts, any_above}
@@ -117,7 +117,7 @@ answered_all w ok (i ∷ is) all s f g low =
 counted : (xs : List Step) → counts_of xs ≡ counts_of_kinds (numbers xs)
 unfolding counts_of counts_of_kinds
 counted xs =
-    rw (numbers_length xs, numbers_count root_entry xs, numbers_count passed_Entry xs, numbers_count crossed_entry xs, numbers_count stay xs, entries_all xs)
+    rw (numbers_length xs, numbers_count root_entry xs, numbers_count passed_entry xs, numbers_count crossed_entry xs, numbers_count stay xs, entries_all xs)
 
 pub answered_kinds_law : AnsweredKindsLaw
 unfolding AnsweredKindsLaw run_answer run_reply run run_of

@@ -7,7 +7,7 @@ use native.Mathlib.Omega.{arith}
 use lib.ListN.{length, take, drop, length-append}
 use Rattle.model.specs.declared.State.{State}
 use Rattle.model.specs.Trees.{Tree}
-use Rattle.model.specs.Steps.{Kind, stay, other, root_entry, passed_Entry, crossed_entry, leaving, is_kind, is_entry, Step, step}
+use Rattle.model.specs.Steps.{Kind, stay, other, root_entry, passed_entry, crossed_entry, leaving, is_kind, is_entry, Step, step}
 use Rattle.model.specs.Runs.{steps, state_after, how_many, entering, counts_of, run_of, run, entries_under}
 use Rattle.model.specs.Laws.{AllThreads, add_counts, then_run, RunLaw, CountLaw}
 
@@ -59,7 +59,7 @@ entries_under_join t q (x ∷ xs) ys = omega (arith, entries_under_join t q xs y
 pub run_of_join : (s : State) (xs ys : List Step) → run_of s (xs ++ ys) ≡ then_run (run_of s xs) (run_of (state_after s xs) ys)
 unfolding run_of then_run counts_of add_counts
 run_of_join s xs ys =
-    rw (length-append xs ys, how_many_join is_entry xs ys, how_many_join (is_kind stay) xs ys, how_many_join (is_kind root_entry) xs ys, how_many_join (is_kind passed_Entry) xs ys, how_many_join (is_kind crossed_entry) xs ys, entering_join xs ys, state_after_join s xs ys)
+    rw (length-append xs ys, how_many_join is_entry xs ys, how_many_join (is_kind stay) xs ys, how_many_join (is_kind root_entry) xs ys, how_many_join (is_kind passed_entry) xs ys, how_many_join (is_kind crossed_entry) xs ys, entering_join xs ys, state_after_join s xs ys)
 
 pub run_join : (t : Tree) (is js : List ℕ) (s : State) → run t (is ++ js) s ≡ then_run (run t is s) (run t js (run t is s).state)
 unfolding run run_of
@@ -78,16 +78,16 @@ unfolding RunLaw run steps
 run_law t s = record { none = refl; one = λ i. refl; joined = λ is js. run_join t is js s }
 
 -- COUNTS. Each entry is a root entry, a passed entry or a crossed entry
-entry_one : (k : Kind) → cond (is_kind root_entry k) 1 0 + cond (is_kind passed_Entry k) 1 0 + cond (is_kind crossed_entry k) 1 0 ≡ cond (is_entry k) 1 0
+entry_one : (k : Kind) → cond (is_kind root_entry k) 1 0 + cond (is_kind passed_entry k) 1 0 + cond (is_kind crossed_entry k) 1 0 ≡ cond (is_entry k) 1 0
 unfolding is_kind is_entry
 entry_one stay = refl
 entry_one other = refl
 entry_one root_entry = refl
-entry_one passed_Entry = refl
+entry_one passed_entry = refl
 entry_one crossed_entry = refl
 entry_one leaving = refl
 
-pub entries_all : (xs : List Step) → how_many (is_kind root_entry) xs + how_many (is_kind passed_Entry) xs + how_many (is_kind crossed_entry) xs ≡ how_many is_entry xs
+pub entries_all : (xs : List Step) → how_many (is_kind root_entry) xs + how_many (is_kind passed_entry) xs + how_many (is_kind crossed_entry) xs ≡ how_many is_entry xs
 unfolding how_many
 entries_all [] = refl
 entries_all (x ∷ xs) = omega (arith, entry_one x.kind, entries_all xs)

@@ -11,7 +11,7 @@ use Rattle.model.specs.declared.State.{State}
 use Rattle.model.specs.declared.Counters.{Counters}
 use Rattle.model.specs.declared.LockState.{LockState}
 use Rattle.model.specs.Trees.{Tree, tree_of}
-use Rattle.model.specs.Steps.{stay, other, root_entry, passed_Entry, crossed_entry, leaving, is_kind, is_entry, Step, step}
+use Rattle.model.specs.Steps.{stay, other, root_entry, passed_entry, crossed_entry, leaving, is_kind, is_entry, Step, step}
 use Rattle.model.specs.Runs.{steps, state_after, how_many, entering, counts_of, run_of, run}
 use Rattle.model.specs.Counters.{lock_state, counters_after, good_counts, any_above}
 use Rattle.model.specs.Refusals.{first_refusal, bad_counter, tree_refusal, run_tests_before_19, run_refusal}
@@ -64,7 +64,7 @@ kinds_join xs ys =
       how_many_join (is_kind stay) xs ys,
       how_many_join (is_kind other) xs ys,
       how_many_join (is_kind root_entry) xs ys,
-      how_many_join (is_kind passed_Entry) xs ys,
+      how_many_join (is_kind passed_entry) xs ys,
       how_many_join (is_kind crossed_entry) xs ys,
       how_many_join (is_kind leaving) xs ys,
     )
