@@ -3,5 +3,6 @@ pub mod Arrays
 pub mod Lowest
 pub mod OfRuns
 pub mod Paths
+pub mod Reasons
 pub mod StateCheck
 pub mod Cases

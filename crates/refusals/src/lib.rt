@@ -3,6 +3,7 @@
 
 pub mod of_runs;
 pub mod paths;
+pub mod reasons;
 pub mod state_check;
 
 ghost use Rattle.std.specs.Prelude.{◌≡◌, [], ◌<◌, ◌≤◌, length};
