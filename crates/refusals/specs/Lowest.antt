@@ -1,8 +1,13 @@
 -- The result of a scan.
-use Rattle.std.specs.Prelude.{◌≡◌, Bool, true, false, ℕ, ◌≤◌, ◌<◌}
+use Rattle.std.specs.Prelude.{◌≡◌, Bool, true, false, ℕ, ◌≤◌, ◌<◌, Option, Some, None}
 
 -- the lowest bad place of n places; n if none is bad
 pub record Lowest (n : ℕ) (bad : ℕ → Bool) (found : ℕ) : Type 0 where
   pub within : found ≤ n
   pub passed : (j : ℕ) → j < found → bad j ≡ false
   pub fails : found < n → bad found ≡ true
+
+-- the place that a scan returns; n if it returns none
+abbrev pub or_end : Option ℕ → (n : ℕ) → ℕ
+or_end (Some place) n = place
+or_end None n = n
