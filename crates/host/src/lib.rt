@@ -7,7 +7,8 @@ ghost use Rattle.chain.specs.Answers.{chain_answer, buffer_answer};
 ghost use Rattle.model.specs.Answers.{fresh_answer, step_answer, run_answer, trace_answer};
 ghost use Rattle.host.specs.Answers.{answer_of};
 ghost use Rattle.host.specs.Versions.{version_number, struct_sizes};
-ghost use Rattle.host.specs.InPlace.{fresh_kept, fresh_left, fresh_without_state, step_without_state};
+ghost use Rattle.refusals.specs.Reasons.{refusal_of};
+ghost use Rattle.host.specs.InPlace.{fresh_left, fresh_without_state, step_without_state};
 ghost use Rattle.lock_file.specs.FileAnswers.FileAnswers.{file_answer, output_answer};
 ghost use Rattle.lock_file.specs.FileWriter.Answers.{write_answer, file_buffer_answer};
 ghost use Rattle.journal.specs.Answers.{journal_answer};
@@ -26,6 +27,7 @@ use journal::step_check::StepsReply;
 use kinds::KindsReply;
 use lock_file::ReadReply;
 use model::{FreshReply, LockState, RunReply, StepReply, TreeWords};
+use refusals::reasons::Refusal;
 use rate::{PassingTimes, RateReply};
 use schedules::ManyReply;
 use text_tree::TextReply;
@@ -54,7 +56,7 @@ pub struct StepAnswer {
 pub extern "C" fn hmcs_fresh(tree: TreeWords, start: u16) -> FreshReply
     ensures { result ≡ fresh_answer tree start }
 {
-    lock::fresh_lock(tree, start)
+    lock::fresh_lock(&tree, start)
 }
 
 // One step by value: its kind, its domain and the state after it; if refused, kind 0, domain 0 and the state unchanged.
@@ -62,7 +64,7 @@ pub extern "C" fn hmcs_fresh(tree: TreeWords, start: u16) -> FreshReply
 pub extern "C" fn hmcs_step(tree: TreeWords, state: LockState, thread: u16) -> StepReply
     ensures { result ≡ step_answer tree state thread }
 {
-    lock::step_lock(tree, state, thread)
+    lock::step_lock(&tree, state, thread)
 }
 
 // A run by value: the entering threads at the front of the trace; if refused, state and trace are unchanged.
@@ -76,21 +78,22 @@ pub extern "C" fn hmcs_run(
     ensures value { result ≡ run_answer tree state schedule.now trace.old }
     ensures trace_after { trace.new ≡ trace_answer tree state schedule.now trace.old }
 {
-    lock::run_lock(tree, state, schedule, trace)
+    lock::run_lock(&tree, state, schedule, trace)
 }
 
-// A fresh lock by value, given the state that a host keeps: the fresh state if accepted, the host's state if refused.
-fn fresh_kept(tree: TreeWords, state: LockState, start: u16) -> FreshReply
-    ensures { result ≡ fresh_kept (fresh_answer tree start) state }
+// The number and place of what the tests found.
+fn answer(tested: Result<(), Refusal>) -> Answer
+    ensures { result ≡ answer_of (refusal_of tested) }
 {
-    let r = hmcs_fresh(tree, start);
-    if r.number == 0 {
-        return r;
-    }
-    FreshReply {
-        number: r.number,
-        place: r.place,
-        state,
+    match tested {
+        Ok(()) => Answer {
+            number: 0,
+            place: 0,
+        },
+        Err(refusal) => Answer {
+            number: refusal.number(),
+            place: refusal.place,
+        },
     }
 }
 
@@ -99,11 +102,13 @@ fn fresh_kept(tree: TreeWords, state: LockState, start: u16) -> FreshReply
 pub extern "C" fn hmcs_fresh_in_place(tree: TreeWords, state: &mut LockState, start: u16) -> Answer
     ensures { (result ≡ fresh_without_state (fresh_answer tree start)) × (state.new ≡ fresh_left (fresh_answer tree start) state.old) }
 {
-    let kept = fresh_kept(tree, *state, start);
-    *state = kept.state;
+    let fresh = lock::fresh_lock(&tree, start);
+    if fresh.number == 0 {
+        *state = fresh.state;
+    }
     Answer {
-        number: kept.number,
-        place: kept.place,
+        number: fresh.number,
+        place: fresh.place,
     }
 }
 
@@ -116,13 +121,19 @@ pub extern "C" fn hmcs_step_in_place(
 ) -> StepAnswer
     ensures { (result ≡ step_without_state (step_answer tree state.old thread)) × (state.new ≡ (step_answer tree state.old thread).state) }
 {
-    let r = lock::step_lock(tree, *state, thread);
-    *state = r.state;
-    StepAnswer {
-        number: r.number,
-        place: r.place,
-        kind: r.kind,
-        domain: r.domain,
+    match lock::step_in_place(&tree, state, thread) {
+        Ok(step) => StepAnswer {
+            number: 0,
+            place: 0,
+            kind: step.kind,
+            domain: step.domain,
+        },
+        Err(refusal) => StepAnswer {
+            number: refusal.number(),
+            place: refusal.place,
+            kind: 0,
+            domain: 0,
+        },
     }
 }
 
@@ -168,7 +179,7 @@ pub extern "C" fn hmcs_write_file(
     ensures length_after { length.new ≡ (write_answer tree schedule.now file.old).length }
     ensures file_after { file.new ≡ file_buffer_answer tree schedule.now file.old }
 {
-    let r = file_calls::writing::write_file(tree, schedule, file);
+    let r = file_calls::writing::write_file(&tree, schedule, file);
     *place = r.place;
     *length = r.length;
     r.number
@@ -201,7 +212,7 @@ pub extern "C" fn hmcs_run_many(
     ensures value { result ≡ many_reply tree lengths.now entries.now rows.old }
     ensures rows_after { rows.new ≡ rows_answer tree lengths.now entries.now rows.old }
 {
-    runs_call::many_schedules::run_many(tree, lengths, entries, rows)
+    runs_call::many_schedules::run_many(&tree, lengths, entries, rows)
 }
 
 // The check of a journal: 0 if its threads, stepped one after another from a fresh lock, take steps of its kinds; else the number and the first byte of the first refused entry.
@@ -209,7 +220,7 @@ pub extern "C" fn hmcs_run_many(
 pub extern "C" fn hmcs_check_journal(tree: TreeWords, journal: &[u8]) -> JournalReply
     ensures { result ≡ journal_answer tree journal.now }
 {
-    journal_call::check_journal(tree, journal)
+    journal_call::check_journal(&tree, journal)
 }
 
 // The check of steps named by thread, kind and domain, from a state: the number that refuses the first wrong one and its position, how many come before it and the state after those; if accepted, the state after the last.
@@ -223,7 +234,7 @@ pub extern "C" fn hmcs_check_steps(
 ) -> StepsReply
     ensures { result ≡ steps_answer tree state threads.now kinds.now domains.now }
 {
-    journal_call::step_check::check_steps(tree, state, threads, kinds, domains)
+    journal_call::step_check::check_steps(&tree, state, threads, kinds, domains)
 }
 
 // A run that also writes the waits of each thread's attempts and of all together to its own row buffer; if refused, trace and rows are unchanged.
@@ -239,7 +250,7 @@ pub extern "C" fn hmcs_run_waits(
     ensures trace_after { trace.new ≡ waits_trace tree state schedule.now trace.old rows.old }
     ensures rows_after { rows.new ≡ waits_rows tree state schedule.now trace.old rows.old }
 {
-    runs_call::with_waits::run_waits(tree, state, schedule, trace, rows)
+    runs_call::with_waits::run_waits(&tree, state, schedule, trace, rows)
 }
 
 // The same for a run that continues the attempts under way; their numbers are replaced by those after the run; if refused, trace, rows and numbers are unchanged.
@@ -257,7 +268,7 @@ pub extern "C" fn hmcs_run_waits_on(
     ensures rows_after { rows.new ≡ waits_on_rows tree state schedule.now trace.old rows.old under_way.old }
     ensures under_way_after { under_way.new ≡ waits_on_under_way tree state schedule.now trace.old rows.old under_way.old }
 {
-    runs_call::with_waits::run_waits_on(tree, state, schedule, trace, rows, under_way)
+    runs_call::with_waits::run_waits_on(&tree, state, schedule, trace, rows, under_way)
 }
 
 // A run that also writes two numbers per step to its own buffer, the kind and the domain; if refused, trace and rows are unchanged.
@@ -273,7 +284,7 @@ pub extern "C" fn hmcs_run_kinds(
     ensures trace_after { trace.new ≡ kinds_trace tree state schedule.now trace.old rows.old }
     ensures rows_after { rows.new ≡ kinds_rows tree state schedule.now trace.old rows.old }
 {
-    runs_call::with_kinds::run_kinds(tree, state, schedule, trace, rows)
+    runs_call::with_kinds::run_kinds(&tree, state, schedule, trace, rows)
 }
 
 // The check of a state that a host has kept: what refuses it, 4 to 9, 16 or 10; 0 and 0 if every call accepts it.
@@ -281,11 +292,7 @@ pub extern "C" fn hmcs_run_kinds(
 pub extern "C" fn hmcs_check_state(tree: TreeWords, state: LockState) -> Answer
     ensures { result ≡ answer_of (check_answer tree state) }
 {
-    let r = refusals::state_check::check_state(tree, state);
-    Answer {
-        number: r.number,
-        place: r.place,
-    }
+    answer(refusals::state_check::check_state(&tree, &state))
 }
 
 // The chain of threads that a thread waits for, starting with itself, at the front of the chain buffer; if refused, the buffer is unchanged. It returns the number; place and length go to the host's pointers.
@@ -303,7 +310,7 @@ pub extern "C" fn hmcs_chain(
     ensures length_after { length.new ≡ (chain_answer tree state thread chain.old).length }
     ensures chain_after { chain.new ≡ buffer_answer tree state thread chain.old }
 {
-    let reply = chain_call::chain(tree, state, thread, chain);
+    let reply = chain_call::chain(&tree, &state, thread, chain);
     *place = reply.place;
     *length = reply.length;
     reply.number
@@ -315,11 +322,7 @@ pub extern "C" fn hmcs_allowances(tree: TreeWords, allowances: &mut [u64; 64]) -
     ensures value { result ≡ answer_of (allowances_answer tree) }
     ensures allowances_after { allowances.new ≡ allowances_left tree allowances.old }
 {
-    let r = bounds_call::allowances(tree, allowances);
-    Answer {
-        number: r.number,
-        place: r.place,
-    }
+    answer(bounds_call::allowances(&tree, allowances))
 }
 
 // In how many rounds of any fair schedule every thread enters, and how many turns these are in round robin.
@@ -327,7 +330,7 @@ pub extern "C" fn hmcs_allowances(tree: TreeWords, allowances: &mut [u64; 64]) -
 pub extern "C" fn hmcs_rounds(tree: TreeWords) -> RoundsReply
     ensures { result ≡ rounds_answer tree }
 {
-    bounds_call::rounds(tree)
+    bounds_call::rounds(&tree)
 }
 
 // The longest wait of each thread while nobody stalls, in entries of others, capped at the largest 64-bit number, and 0 in unused slots; if refused, the buffer is unchanged.
@@ -336,11 +339,7 @@ pub extern "C" fn hmcs_wait_bounds(tree: TreeWords, bounds: &mut [u64; 256]) -> 
     ensures value { result ≡ answer_of (wait_bounds_answer tree) }
     ensures bounds_after { bounds.new ≡ wait_bounds_left tree bounds.old }
 {
-    let r = bounds_call::wait_bounds::wait_bounds(tree, bounds);
-    Answer {
-        number: r.number,
-        place: r.place,
-    }
+    answer(bounds_call::wait_bounds::wait_bounds(&tree, bounds))
 }
 
 // The version of the library, for a host compiled with another version of the header.

@@ -1,57 +1,69 @@
 // The steps of a run: its loop, and 19. The calls on a lock use it and have made the tests that it requires.
 ghost use Rattle.std.specs.Prelude.{◌≡◌};
+ghost use Rattle.model.specs.Counters.{fresh_counters};
 ghost use Rattle.model.specs.Refusals.{refusal};
-ghost use Rattle.model.specs.Answers.{run_refused};
+ghost use Rattle.model.specs.Answers.{run_refused, no_counts};
+ghost use Rattle.refusals.specs.Reasons.{number_of};
 ghost use Rattle.lock.specs.Steps.Running.{fresh_from};
 
 pub mod limits;
 pub mod run;
 
-use model::{Counts, LockState, PlaceArrays, RunReply, State};
+use model::{Counters, Counts, LockState, PlaceArrays, RunReply, State};
+use refusals::reasons::Refusal;
 
 // The state of a fresh lock whose ticket counters start at this number.
 pub fn fresh_state(first: u16) -> State
     ensures { result ≡ fresh_from first }
 {
-    let tails = [0u16; 64];
-    let nexts = [0u16; 320];
-    let statuses = [0u64; 320];
-    let rows = [0u8; 256];
-    let domains = [0u8; 256];
-    let peers = [0u16; 256];
-    let words = [0u64; 256];
-    let places = PlaceArrays {
-        rows,
-        domains,
-        peers,
-        words,
-    };
     State {
-        tails,
-        nexts,
-        statuses,
-        places,
+        tails: [0; 64],
+        nexts: [0; 320],
+        statuses: [0; 320],
+        places: PlaceArrays {
+            rows: [0; 256],
+            domains: [0; 256],
+            peers: [0; 256],
+            words: [0; 256],
+        },
         ticket: first,
         grant: first,
     }
 }
 
-// The reply to a refused run: number, place, all counts 0 and the state unchanged.
-pub fn refused(number: u32, place: u32, state: LockState) -> RunReply
-    ensures { result ≡ run_refused (refusal number place) state }
+// Counters that are all 0.
+pub fn fresh_counters() -> Counters
+    ensures { result ≡ fresh_counters }
 {
-    let counts = Counts {
+    Counters {
+        entries: [0; 64],
+        tenures: [0; 64],
+        longest: [0; 64],
+    }
+}
+
+// The counts of a run without steps.
+pub fn no_counts() -> Counts
+    ensures { result ≡ no_counts }
+{
+    Counts {
         steps: 0,
         entries: 0,
         stays: 0,
         root: 0,
         passed: 0,
         crossed: 0,
-    };
+    }
+}
+
+// The reply to a refused run: number, place, all counts 0 and the state unchanged.
+pub fn refused(refused: Refusal, state: LockState) -> RunReply
+    ensures { result ≡ run_refused (refusal (number_of refused.reason) refused.place) state }
+{
     RunReply {
-        number,
-        place,
-        counts,
+        number: refused.number(),
+        place: refused.place,
+        counts: no_counts(),
         state,
     }
 }

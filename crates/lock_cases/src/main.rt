@@ -62,7 +62,7 @@ fn four_threads(threshold: u16) -> TreeWords {
 }
 
 fn fresh(tree: TreeWords) -> LockState {
-    let r = lock::fresh_lock(tree, 0);
+    let r = lock::fresh_lock(&tree, 0);
     r.state
 }
 
@@ -104,11 +104,11 @@ fn trace_room(rt: &impl Print) -> io::Result<()> {
     let tree = two_threads(2);
     let schedule = [0u16, 0, 0, 0];
     let mut enough = [77u16; 4];
-    let r = lock::run_lock(tree, fresh(tree), &schedule, &mut enough);
+    let r = lock::run_lock(&tree, fresh(tree), &schedule, &mut enough);
     put(rt, "trace of the schedule's length")?;
     show(rt, r, enough[0], enough[1])?;
     let mut short = [77u16; 3];
-    let q = lock::run_lock(tree, fresh(tree), &schedule, &mut short);
+    let q = lock::run_lock(&tree, fresh(tree), &schedule, &mut short);
     put(rt, "trace one shorter")?;
     show(rt, q, short[0], short[1])
 }
@@ -118,7 +118,7 @@ fn late_entry(rt: &impl Print) -> io::Result<()> {
     let tree = two_threads(2);
     let schedule = [0u16, 0, 0, 0, 2];
     let mut trace = [77u16; 5];
-    let r = lock::run_lock(tree, fresh(tree), &schedule, &mut trace);
+    let r = lock::run_lock(&tree, fresh(tree), &schedule, &mut trace);
     put(rt, "last entry no thread")?;
     show(rt, r, trace[0], trace[1])?;
     let left = r.state;
@@ -136,14 +136,14 @@ fn three_stays(rt: &impl Print) -> io::Result<()> {
     let tree = two_threads(2);
     let schedule = [0u16, 0, 0, 0, 1, 1, 1, 1, 1, 1];
     let mut trace = [77u16; 10];
-    let r = lock::run_lock(tree, fresh(tree), &schedule, &mut trace);
+    let r = lock::run_lock(&tree, fresh(tree), &schedule, &mut trace);
     put(rt, "three turns of a waiting thread")?;
     show(rt, r, trace[0], trace[1])
 }
 
 // A threshold of 65,535 is accepted.
 fn largest_threshold(rt: &impl Print) -> io::Result<()> {
-    let r = lock::fresh_lock(two_threads(65535), 0);
+    let r = lock::fresh_lock(&two_threads(65535), 0);
     put(rt, "threshold 65535")?;
     number(rt, r.number)?;
     number(rt, r.place)?;
@@ -164,7 +164,7 @@ fn turns(rt: &impl Print, threshold: u16) -> io::Result<()> {
     let tree = four_threads(threshold);
     let schedule = order();
     let mut trace = [77u16; 4000];
-    let r = lock::run_lock(tree, fresh(tree), &schedule, &mut trace);
+    let r = lock::run_lock(&tree, fresh(tree), &schedule, &mut trace);
     show(rt, r, trace[0], trace[1])
 }
 
@@ -172,10 +172,10 @@ fn turns(rt: &impl Print, threshold: u16) -> io::Result<()> {
 fn ticket_turns(rt: &impl Print) -> io::Result<()> {
     let mut tree = four_threads(2);
     tree.ticket_root = 1;
-    let start = lock::fresh_lock(tree, 65535);
+    let start = lock::fresh_lock(&tree, 65535);
     let schedule = order();
     let mut trace = [77u16; 4000];
-    let r = lock::run_lock(tree, start.state, &schedule, &mut trace);
+    let r = lock::run_lock(&tree, start.state, &schedule, &mut trace);
     show(rt, r, trace[0], trace[1])?;
     let left = r.state;
     let s = left.words;
@@ -186,7 +186,7 @@ fn ticket_turns(rt: &impl Print) -> io::Result<()> {
 }
 
 fn step_line(rt: &impl Print, tree: TreeWords, words: State, thread: u16) -> io::Result<()> {
-    let r = lock::step_lock(tree, uncounted(words), thread);
+    let r = lock::step_lock(&tree, uncounted(words), thread);
     let left = r.state;
     let s = left.words;
     let at = (thread % 256) as usize;

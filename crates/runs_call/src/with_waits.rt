@@ -1,12 +1,9 @@
 // A run with waits: what refuses it, 4 to 9, 16 and 10 to 13, then 18, 27 and 19; the mean of a row; and the run itself.
 ghost use Rattle.std.specs.Prelude.{◌≡◌};
 ghost use Rattle.model.specs.Trees.{tree_of};
-ghost use Rattle.model.specs.Counters.{lock_state};
-ghost use Rattle.model.specs.Laws.{Typed};
 ghost use Rattle.model.specs.Refusals.{first_refusal};
-ghost use Rattle.refusals.specs.Arrays.{refusal_words, lent_state};
+ghost use Rattle.refusals.specs.Reasons.{refusal_of};
 ghost use Rattle.refusals.specs.Lowest.{Lowest};
-ghost use Rattle.refusals.specs.OfRuns.Counts.{counters_in};
 ghost use Rattle.waits.specs.Rows.{greatest_divisor, mean};
 ghost use Rattle.waits.specs.Refusals.{waits_tests_before_19, bad_under_way, waits_on_refusal};
 ghost use Rattle.waits.specs.Answers.{waits_answer, waits_trace, waits_rows, waits_on_answer, waits_on_trace, waits_on_rows, waits_on_under_way};
@@ -15,8 +12,8 @@ ghost use Rattle.runs_call.specs.WithWaits.Waiting.{bad_number};
 mod tested;
 mod waiting;
 
-use model::{Counters, LockState, PlaceArrays, State, TreeWords};
-use refusals::Refusal;
+use model::{LockState, TreeWords};
+use refusals::reasons::{Reason, Refusal};
 use waits::{Fraction, WaitsReply};
 
 // The largest number of an attempt under way, 2^63.
@@ -53,42 +50,21 @@ pub fn mean_of(total: u64, attempts: u64) -> Fraction
     }
 }
 
-// 4 to 9, 16 and 10 to 13, then 18, the tests of a run with waits; the caller tests 19 with the steps. The arrays of the state are borrowed.
-pub fn waits_refusal_of<'s, 'c>(
-    tree: TreeWords,
-    tails: &'s [u16; 64],
-    nexts: &'s [u16; 320],
-    statuses: &'s [u64; 320],
-    places: &'s [u8; 256],
-    domains: &'s [u8; 256],
-    peers: &'s [u16; 256],
-    words: &'s [u64; 256],
-    ticket: u16,
-    granted: u16,
-    entries: &'c [u64; 64],
-    tenures: &'c [u64; 64],
-    longest: &'c [u64; 64],
+// 4 to 9, 16 and 10 to 13, then 18, the tests of a run with waits; the caller tests 19 with the steps.
+pub fn waits_refusal_of(
+    tree: &TreeWords,
+    state: &LockState,
     schedule: &[u16],
     room: usize,
     row_room: usize,
-) -> Refusal
-    ensures { let before = lent_state tails.now nexts.now statuses.now places.now domains.now peers.now words.now ticket granted in
-        result ≡ refusal_words (first_refusal (waits_tests_before_19 (tree_of tree) (lock_state before (counters_in entries.now tenures.now longest.now)) schedule.now room row_room)) }
+) -> Result<(), Refusal>
+    ensures { refusal_of result ≡ first_refusal (waits_tests_before_19 (tree_of tree.now) state.now schedule.now room row_room) }
 {
-    let r = refusals::of_runs::lent_refusal_of(
-        tree, tails, nexts, statuses, places, domains, peers, words, ticket, granted, entries,
-        tenures, longest, schedule, room,
-    );
-    if r.number != 0 {
-        return r;
-    }
+    refusals::of_runs::lent_refusal_of(tree, state, schedule, room)?;
     if row_room / 5 <= tree.threads as usize {
-        return Refusal {
-            number: 18,
-            place: 0,
-        };
+        return Err(Reason::WaitsBufferShort.at(0));
     }
-    r
+    Ok(())
 }
 
 // Whether the number of an attempt under way is invalid: above 2^63, or not 0 in an unused slot.
@@ -120,200 +96,68 @@ fn lowest_bad_number(tree: TreeWords, under_way: &[u64; 256]) -> u32
 }
 
 // The same tests, followed by 27 and 19.
-pub(crate) fn refusal_of<'s, 'c>(
-    tree: TreeWords,
-    tails: &'s [u16; 64],
-    nexts: &'s [u16; 320],
-    statuses: &'s [u64; 320],
-    places: &'s [u8; 256],
-    domains: &'s [u8; 256],
-    peers: &'s [u16; 256],
-    words: &'s [u64; 256],
-    ticket: u16,
-    granted: u16,
-    entries: &'c [u64; 64],
-    tenures: &'c [u64; 64],
-    longest: &'c [u64; 64],
+pub(crate) fn refusal_of(
+    tree: &TreeWords,
+    state: &LockState,
     schedule: &[u16],
     room: usize,
     row_room: usize,
     under_way: &[u64; 256],
-) -> Refusal
-    requires { Typed (lent_state tails.now nexts.now statuses.now places.now domains.now peers.now words.now ticket granted) }
-    ensures { let before = lent_state tails.now nexts.now statuses.now places.now domains.now peers.now words.now ticket granted in
-        result ≡ refusal_words (waits_on_refusal (tree_of tree) (lock_state before (counters_in entries.now tenures.now longest.now)) schedule.now room row_room under_way.now) }
+) -> Result<(), Refusal>
+    ensures { refusal_of result ≡ waits_on_refusal (tree_of tree.now) state.now schedule.now room row_room under_way.now }
 {
-    let r = waits_refusal_of(
-        tree, tails, nexts, statuses, places, domains, peers, words, ticket, granted, entries,
-        tenures, longest, schedule, room, row_room,
-    );
-    if r.number != 0 {
-        return r;
+    waits_refusal_of(tree, state, schedule, room, row_room)?;
+    if let Some(k) = lowest_bad_number(tree, under_way) {
+        return Err(Reason::BadUnderWay.at(k));
     }
-    let k = lowest_bad_number(tree, under_way);
-    if k < 256 {
-        return Refusal {
-            number: 27,
-            place: k,
-        };
-    }
-    lock::steps::limits::lent_counter_refusal_of(
-        tree, tails, nexts, statuses, places, domains, peers, words, ticket, granted, entries,
-        tenures, longest, schedule,
-    )
+    lock::steps::limits::lent_counter_refusal_of(tree, state, schedule)
 }
 
 // A run that also writes the waits of each thread's attempts and of all together to its own row buffer, five numbers per row; if refused, state, trace and rows are unchanged.
 pub fn run_waits(
-    tree: TreeWords,
+    tree: &TreeWords,
     state: LockState,
     schedule: &[u16],
     trace: &mut [u16],
     rows: &mut [u64],
 ) -> WaitsReply
-    ensures value { result ≡ waits_answer tree state schedule.now trace.old rows.old }
-    ensures trace_after { trace.new ≡ waits_trace tree state schedule.now trace.old rows.old }
-    ensures rows_after { rows.new ≡ waits_rows tree state schedule.now trace.old rows.old }
+    ensures value { result ≡ waits_answer tree.now state schedule.now trace.old rows.old }
+    ensures trace_after { trace.new ≡ waits_trace tree.now state schedule.now trace.old rows.old }
+    ensures rows_after { rows.new ≡ waits_rows tree.now state schedule.now trace.old rows.old }
 {
-    let mut tails = state.words.tails;
-    let mut nexts = state.words.nexts;
-    let mut statuses = state.words.statuses;
-    let mut places = state.words.places.rows;
-    let mut domains = state.words.places.domains;
-    let mut peers = state.words.places.peers;
-    let mut words = state.words.places.words;
-    let mut ticket = state.words.ticket;
-    let mut grant = state.words.grant;
-    let mut entries = state.counters.entries;
-    let mut tenures = state.counters.tenures;
-    let mut longest = state.counters.longest;
     let mut under_way = [0u64; 256];
-    let r = tested::waits_tested(
-        tree,
-        &mut tails,
-        &mut nexts,
-        &mut statuses,
-        &mut places,
-        &mut domains,
-        &mut peers,
-        &mut words,
-        &mut ticket,
-        &mut grant,
-        &mut entries,
-        &mut tenures,
-        &mut longest,
-        schedule,
-        trace,
-        rows,
-        &mut under_way,
-    );
-    let stood = PlaceArrays {
-        rows: places,
-        domains,
-        peers,
-        words,
-    };
-    let after = State {
-        tails,
-        nexts,
-        statuses,
-        places: stood,
-        ticket,
-        grant,
-    };
-    let counters = Counters {
-        entries,
-        tenures,
-        longest,
-    };
-    let left = LockState {
-        words: after,
-        counters,
-    };
-    let counts = r.counts;
-    WaitsReply {
-        number: r.number,
-        place: r.place,
-        counts,
-        rows: r.rows,
-        state: left,
-    }
+    run_waits_on(tree, state, schedule, trace, rows, &mut under_way)
 }
 
 // The same for a run that continues the attempts under way; their numbers are replaced by those after the run. If refused, the numbers are unchanged too.
 pub fn run_waits_on(
-    tree: TreeWords,
+    tree: &TreeWords,
     state: LockState,
     schedule: &[u16],
     trace: &mut [u16],
     rows: &mut [u64],
     under_way: &mut [u64; 256],
 ) -> WaitsReply
-    ensures value { result ≡ waits_on_answer tree state schedule.now trace.old rows.old under_way.old }
-    ensures trace_after { trace.new ≡ waits_on_trace tree state schedule.now trace.old rows.old under_way.old }
-    ensures rows_after { rows.new ≡ waits_on_rows tree state schedule.now trace.old rows.old under_way.old }
-    ensures under_way_after { under_way.new ≡ waits_on_under_way tree state schedule.now trace.old rows.old under_way.old }
+    ensures value { result ≡ waits_on_answer tree.now state schedule.now trace.old rows.old under_way.old }
+    ensures trace_after { trace.new ≡ waits_on_trace tree.now state schedule.now trace.old rows.old under_way.old }
+    ensures rows_after { rows.new ≡ waits_on_rows tree.now state schedule.now trace.old rows.old under_way.old }
+    ensures under_way_after { under_way.new ≡ waits_on_under_way tree.now state schedule.now trace.old rows.old under_way.old }
 {
-    let mut tails = state.words.tails;
-    let mut nexts = state.words.nexts;
-    let mut statuses = state.words.statuses;
-    let mut places = state.words.places.rows;
-    let mut domains = state.words.places.domains;
-    let mut peers = state.words.places.peers;
-    let mut words = state.words.places.words;
-    let mut ticket = state.words.ticket;
-    let mut grant = state.words.grant;
-    let mut entries = state.counters.entries;
-    let mut tenures = state.counters.tenures;
-    let mut longest = state.counters.longest;
-    let r = tested::waits_tested(
-        tree,
-        &mut tails,
-        &mut nexts,
-        &mut statuses,
-        &mut places,
-        &mut domains,
-        &mut peers,
-        &mut words,
-        &mut ticket,
-        &mut grant,
-        &mut entries,
-        &mut tenures,
-        &mut longest,
-        schedule,
-        trace,
-        rows,
-        under_way,
-    );
-    let stood = PlaceArrays {
-        rows: places,
-        domains,
-        peers,
-        words,
-    };
-    let after = State {
-        tails,
-        nexts,
-        statuses,
-        places: stood,
-        ticket,
-        grant,
-    };
-    let counters = Counters {
-        entries,
-        tenures,
-        longest,
-    };
-    let left = LockState {
-        words: after,
-        counters,
-    };
-    let counts = r.counts;
-    WaitsReply {
-        number: r.number,
-        place: r.place,
-        counts,
-        rows: r.rows,
-        state: left,
+    let mut left = state;
+    match tested::waits_tested(tree, &mut left, schedule, trace, rows, under_way) {
+        Ok(counts) => WaitsReply {
+            number: 0,
+            place: 0,
+            counts,
+            rows: tree.threads + 1,
+            state: left,
+        },
+        Err(refusal) => WaitsReply {
+            number: refusal.number(),
+            place: refusal.place,
+            counts: lock::steps::no_counts(),
+            rows: 0,
+            state: left,
+        },
     }
 }

@@ -1,16 +1,17 @@
 // The run's loop.
 ghost use Rattle.std.specs.Prelude.{◌≡◌, cond, ◌+◌, ◌*◌, ◌/◌, ◌%◌, ◌<◌, ◌≤◌, length, get_or};
 ghost use Rattle.model.specs.Trees.{tree_of};
-ghost use Rattle.model.specs.Counters.{lock_state, counters_after};
-ghost use Rattle.model.specs.Refusals.{first_refusal, run_tests_before_19};
-ghost use Rattle.refusals.specs.OfRuns.Counts.{counters_in};
+ghost use Rattle.model.specs.Counters.{counters_after};
+ghost use Rattle.model.specs.Refusals.{first_refusal, tree_refusal, run_tests_before_19};
+ghost use Rattle.model.specs.States.{wrap};
 ghost use Rattle.model.specs.Runs.{steps, run};
 ghost use Rattle.model.specs.Laws.{Typed};
 ghost use Rattle.rows.specs.Common.Standing.{row_domain, is_entry_number};
-ghost use Rattle.refusals.specs.Arrays.{places_in, lent_state};
+ghost use Rattle.rows.specs.Common.Counting.{Clear};
+ghost use Rattle.lock.specs.Steps.Counting.{Marked};
 ghost use Rattle.lock.specs.Steps.Running.{kinds_of, counted, counts_by, traced_at, trace_front, code_of, code_stored, codes_front, placed};
 
-use model::{Counts, PlaceWords, TreeWords};
+use model::{Counts, LockState, PlaceArrays, PlaceWords, State, TreeWords};
 use refusals::of_runs::places;
 use rows::common::counting;
 
@@ -89,130 +90,78 @@ pub fn domain_of_code(home: u8, code: u16) -> u32
 {
     let row = (code / 8) % 16;
     if row == 0 {
-        return casts::byte_number(home);
+        return u32::from(home);
     }
     if row == 5 {
-        return casts::byte_number(home);
+        return u32::from(home);
     }
-    (code / 128) as u32
+    u32::from(code / 128)
 }
 
 // Stores the place after a step unless the step is a stay.
-fn put_place(
-    rows: &mut [u8; 256],
-    domains: &mut [u8; 256],
-    peers: &mut [u16; 256],
-    words: &mut [u64; 256],
-    at: usize,
-    kind: u8,
-    place: PlaceWords,
-)
+fn put_place(places: &mut PlaceArrays, at: usize, kind: u8, place: PlaceWords)
     requires { at < 256 }
-    ensures { places_in rows.new domains.new peers.new words.new ≡ placed kind (places_in rows.old domains.old peers.old words.old) at place }
+    ensures { places.new ≡ placed kind places.old at place }
 {
     if kind == model::STAY {
         return;
     }
-    rows[at] = place.row;
-    domains[at] = place.domain;
-    peers[at] = place.peer;
-    words[at] = place.word;
+    places.rows[at] = place.row;
+    places.domains[at] = place.domain;
+    places.peers[at] = place.peer;
+    places.words[at] = place.word;
 }
 
-// The steps of a schedule, stored one after another into the borrowed arrays, which are parameters of their own for the reason given at `rows::step::take`. Also written: how many steps are of each kind, one number for each step as far as the buffer reaches, and the counters of the domains.
+// The marks of the first threads: the domains for whose records they watch and whose ticket a raise shows.
+fn mark_watching(tree: &TreeWords, words: &State, threads: u32, shown: &mut [bool; 64])
+    requires tree_value { (tree_refusal (tree_of tree.now)).number ≡ 0 }
+    requires threads_bound { threads ≤ tree.now.threads }
+    requires clear { Clear shown.old }
+    ensures { Marked tree.now.domains tree.now.parents tree.now.homes words.now.statuses words.now.places (wrap (words.now.grant + 1)) threads shown.new }
+{
+    for other in 0..threads {
+        let at = other as usize;
+        let place = places::place_at(&words.places, at);
+        counting::mark_shown(tree, tree.homes[at], &words.statuses, place, words.grant, shown);
+    }
+}
+
+// What the type of a state fixes: the lengths of its arrays, and that each number has its bits. A state that is passed by reference says so through this call; the compiler leaves out the copy, which nobody reads.
+fn fits_its_type(state: LockState)
+    ensures { Typed state.words }
+{
+}
+
+// The steps of a schedule, stored one after another. Also written: how many steps are of each kind, and one number for each step as far as the buffer reaches.
 pub fn run_lent(
-    tree: TreeWords,
-    tails: &mut [u16; 64],
-    nexts: &mut [u16; 320],
-    statuses: &mut [u64; 320],
-    rows: &mut [u8; 256],
-    domains: &mut [u8; 256],
-    peers: &mut [u16; 256],
-    words: &mut [u64; 256],
-    ticket: &mut u16,
-    granted: &mut u16,
+    tree: &TreeWords,
+    state: &mut LockState,
     schedule: &[u16],
     trace: &mut [u16],
     kinds: &mut [u32; 6],
     codes: &mut [u16],
-    entries: &mut [u64; 64],
-    tenures: &mut [u64; 64],
-    longest: &mut [u64; 64],
 )
-    requires typed { Typed (lent_state tails.old nexts.old statuses.old rows.old domains.old peers.old words.old ticket.old granted.old) }
-    requires trace_value { let lent = lent_state tails.old nexts.old statuses.old rows.old domains.old peers.old words.old ticket.old granted.old in
-        (first_refusal (run_tests_before_19 (tree_of tree) (lock_state lent (counters_in entries.old tenures.old longest.old)) schedule.now (length trace.old))).number ≡ 0 }
-    ensures after_after { let before = lent_state tails.old nexts.old statuses.old rows.old domains.old peers.old words.old ticket.old granted.old in
-        let after = lent_state tails.new nexts.new statuses.new rows.new domains.new peers.new words.new ticket.new granted.new in
-        after ≡ (run (tree_of tree) schedule.now before).state }
-    ensures trace_after { let before = lent_state tails.old nexts.old statuses.old rows.old domains.old peers.old words.old ticket.old granted.old in
-        trace.new ≡ trace_front trace.old (run (tree_of tree) schedule.now before) }
-    ensures kinds_after { let before = lent_state tails.old nexts.old statuses.old rows.old domains.old peers.old words.old ticket.old granted.old in
-        kinds.new ≡ kinds_of (steps (tree_of tree) schedule.now before) }
-    ensures codes_after { let before = lent_state tails.old nexts.old statuses.old rows.old domains.old peers.old words.old ticket.old granted.old in
-        codes.new ≡ codes_front codes.old (steps (tree_of tree) schedule.now before) }
-    ensures longest_after { let before = lent_state tails.old nexts.old statuses.old rows.old domains.old peers.old words.old ticket.old granted.old in
-        counters_in entries.new tenures.new longest.new ≡ counters_after (tree_of tree) (counters_in entries.old tenures.old longest.old) (steps (tree_of tree) schedule.now before) }
+    requires { (first_refusal (run_tests_before_19 (tree_of tree.now) state.old schedule.now (length trace.old))).number ≡ 0 }
+    ensures words_after { state.new.words ≡ (run (tree_of tree.now) schedule.now state.old.words).state }
+    ensures trace_after { trace.new ≡ trace_front trace.old (run (tree_of tree.now) schedule.now state.old.words) }
+    ensures kinds_after { kinds.new ≡ kinds_of (steps (tree_of tree.now) schedule.now state.old.words) }
+    ensures codes_after { codes.new ≡ codes_front codes.old (steps (tree_of tree.now) schedule.now state.old.words) }
+    ensures counters_after { state.new.counters ≡ counters_after (tree_of tree.now) state.old.counters (steps (tree_of tree.now) schedule.now state.old.words) }
 {
-    let mut drawn = *ticket;
-    let mut raised = *granted;
-    let mut tally = [0u32; 6];
+    fits_its_type(*state);
     let mut shown = [false; 64];
     let mut entered: u32 = 0;
-    let mut k: u32 = 0;
-    while (k as usize) < schedule.len() {
-        let position = k as usize;
-        let i = schedule[position];
+    *kinds = [0; 6];
+    for (k, thread) in schedule.iter().enumerate() {
+        let i = *thread;
         let at = i as usize;
-        let before = places::place_at(rows, domains, peers, words, at);
-        let row = before.row;
-        let domain = before.domain;
-        let looked = counting::looked_at(row, statuses, tree.domains, raised, tree.threads);
-        let mut j: u32 = 0;
-        while j < looked {
-            let other = j as usize;
-            let q = places::place_at(rows, domains, peers, words, other);
-            let its_home = tree.homes[other];
-            counting::mark_shown(
-                &tree.parents,
-                tree.domains,
-                its_home,
-                statuses,
-                q,
-                raised,
-                &mut shown,
-            );
-            j += 1;
-        }
-        let m = rows::step::take(
-            &tree.parents,
-            &tree.thresholds,
-            &tree.homes,
-            tree.domains,
-            tree.threads,
-            tree.ticket_root,
-            i,
-            before,
-            looked,
-            tails,
-            nexts,
-            statuses,
-            &mut drawn,
-            &mut raised,
-            &mut shown,
-            entries,
-            tenures,
-            longest,
-        );
-        let kind = m.kind;
-        let place = m.place;
-        count_in(&mut tally, kind);
-        put_place(rows, domains, peers, words, at, kind, place);
-        entered = trace_at(trace, entered, kind, i);
-        put_code(codes, position, kind, row, domain);
-        k += 1;
+        let before = places::place_at(&state.words.places, at);
+        let looked = counting::looked_at(before.row, &state.words.statuses, tree.domains, state.words.grant, tree.threads);
+        mark_watching(tree, &state.words, looked, &mut shown);
+        let m = rows::step::take(tree, i, before, looked, &mut state.words, &mut shown, &mut state.counters);
+        count_in(kinds, m.kind);
+        put_place(&mut state.words.places, at, m.kind, m.place);
+        entered = trace_at(trace, entered, m.kind, i);
+        put_code(codes, k, m.kind, before.row, before.domain);
     }
-    *kinds = tally;
-    *ticket = drawn;
-    *granted = raised;
 }

@@ -24,57 +24,25 @@ fn put_row(rows: &mut [u32], at: usize, number: u32, place: u32, counts: Counts)
 }
 
 // The row of one schedule, run from a fresh lock. The tree and the fresh words pass their tests, so only the schedule is tested; neither the final state nor the trace is kept.
-fn run_row(tree: TreeWords, schedule: &[u16], trace: &mut [u16], rows: &mut [u32], at: usize)
-    requires tree_value { (tree_refusal (tree_of tree)).number ≡ 0 }
+fn run_row(tree: &TreeWords, schedule: &[u16], trace: &mut [u16], rows: &mut [u32], at: usize)
+    requires tree_value { (tree_refusal (tree_of tree.now)).number ≡ 0 }
     requires trace_len { length trace.old ≡ 65536 }
     requires at_in_bounds { at + 8 ≤ length rows.old }
-    ensures { rows.new ≡ sets rows.old at (row_of (alone tree schedule.now)) }
+    ensures { rows.new ≡ sets rows.old at (row_of (alone tree.now schedule.now)) }
 {
-    let r = refusals::schedule_refusal_of(tree.threads, schedule, schedule.len());
-    let mut kinds = [0u32; 6];
-    if r.number != 0 {
-        put_row(
-            rows,
-            at,
-            r.number,
-            r.place,
-            lock::steps::run::counts_of(&kinds),
-        );
-        return;
+    match refusals::schedule_refusal_of(tree.threads, schedule, schedule.len()) {
+        Ok(()) => {
+            let mut state = LockState {
+                words: lock::steps::fresh_state(0),
+                counters: lock::steps::fresh_counters(),
+            };
+            let mut kinds = [0u32; 6];
+            let mut codes = [0u16; 0];
+            lock::steps::run::run_lent(tree, &mut state, schedule, trace, &mut kinds, &mut codes);
+            put_row(rows, at, 0, 0, lock::steps::run::counts_of(&kinds));
+        }
+        Err(refusal) => put_row(rows, at, refusal.number(), refusal.place, lock::steps::no_counts()),
     }
-    let mut codes = [0u16; 0];
-    let mut entries = [0u64; 64];
-    let mut tenures = [0u64; 64];
-    let mut longest = [0u64; 64];
-    let mut tails = [0u16; 64];
-    let mut nexts = [0u16; 320];
-    let mut statuses = [0u64; 320];
-    let mut places = [0u8; 256];
-    let mut domains = [0u8; 256];
-    let mut peers = [0u16; 256];
-    let mut words = [0u64; 256];
-    let mut ticket: u16 = 0;
-    let mut granted: u16 = 0;
-    lock::steps::run::run_lent(
-        tree,
-        &mut tails,
-        &mut nexts,
-        &mut statuses,
-        &mut places,
-        &mut domains,
-        &mut peers,
-        &mut words,
-        &mut ticket,
-        &mut granted,
-        schedule,
-        trace,
-        &mut kinds,
-        &mut codes,
-        &mut entries,
-        &mut tenures,
-        &mut longest,
-    );
-    put_row(rows, at, 0, 0, lock::steps::run::counts_of(&kinds));
 }
 
 // The rows of all schedules in order, with one borrowed trace buffer for all of them.

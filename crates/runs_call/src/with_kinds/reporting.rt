@@ -1,15 +1,15 @@
-// The same on borrowed arrays: the tests, then the loop, which reports each step as one number, and then two numbers per step.
-ghost use Rattle.std.specs.Prelude.{◌≡◌, ◌*◌, ◌/◌, ◌%◌, ◌≤◌, length};
+// The same on a state that the caller keeps: the tests, then the loop, which reports each step as one number, and then two numbers per step.
+ghost use Rattle.std.specs.Prelude.{◌≡◌, ◌*◌, ◌/◌, ◌%◌, ◌≤◌, length, IfOk};
 ghost use Rattle.model.specs.Trees.{tree_of};
-ghost use Rattle.model.specs.Laws.{Typed};
-ghost use Rattle.refusals.specs.Arrays.{refusal_words, lent_state};
+ghost use Rattle.model.specs.Runs.{run};
+ghost use Rattle.refusals.specs.Reasons.{refusal_of};
 ghost use Rattle.rows.specs.Common.Standing.{row_domain};
 ghost use Rattle.kinds.specs.Answers.{kinds_refusal, kinds_answer, kinds_trace, kinds_rows};
-ghost use Rattle.runs_call.specs.WithKinds.Spreading.{ThreadsFit, Spread, lent_lock, reported_beside};
+ghost use Rattle.runs_call.specs.WithKinds.Spreading.{ThreadsFit, Spread};
 
 use lock::steps::{limits, run};
-use model::{Counts, TreeWords};
-use refusals::Refusal;
+use model::{Counts, LockState, TreeWords};
+use refusals::reasons::{Reason, Refusal};
 
 // The domain of a step, given its thread's home and the number that reports the step.
 fn domain_of(home: u8, code: u16) -> u16
@@ -43,125 +43,39 @@ fn spread(homes: &[u8; 256], schedule: &[u16], rows: &mut [u16])
 }
 
 // The tests: 4 to 9, 16 and 10 to 13, then 28, then 19.
-fn refusal_of<'s, 'c>(
-    tree: TreeWords,
-    tails: &'s [u16; 64],
-    nexts: &'s [u16; 320],
-    statuses: &'s [u64; 320],
-    places: &'s [u8; 256],
-    domains: &'s [u8; 256],
-    peers: &'s [u16; 256],
-    words: &'s [u64; 256],
-    ticket: u16,
-    grant: u16,
-    entries: &'c [u64; 64],
-    tenures: &'c [u64; 64],
-    longest: &'c [u64; 64],
+fn refusal_of(
+    tree: &TreeWords,
+    state: &LockState,
     schedule: &[u16],
     room: usize,
     row_room: usize,
-) -> Refusal
-    requires { Typed (lent_state tails.now nexts.now statuses.now places.now domains.now peers.now words.now ticket grant) }
-    ensures { let before = lent_lock tails.now nexts.now statuses.now places.now domains.now peers.now words.now ticket grant entries.now tenures.now longest.now in
-        result ≡ refusal_words (kinds_refusal (tree_of tree) before schedule.now room row_room) }
+) -> Result<(), Refusal>
+    ensures { refusal_of result ≡ kinds_refusal (tree_of tree.now) state.now schedule.now room row_room }
 {
-    let r = refusals::of_runs::lent_refusal_of(
-        tree, tails, nexts, statuses, places, domains, peers, words, ticket, grant, entries,
-        tenures, longest, schedule, room,
-    );
-    if r.number != 0 {
-        return r;
-    }
+    refusals::of_runs::lent_refusal_of(tree, state, schedule, room)?;
     if row_room / 2 < schedule.len() {
-        return Refusal {
-            number: 28,
-            place: 0,
-        };
+        return Err(Reason::KindsShort.at(0));
     }
-    limits::lent_counter_refusal_of(
-        tree, tails, nexts, statuses, places, domains, peers, words, ticket, grant, entries,
-        tenures, longest, schedule,
-    )
+    limits::lent_counter_refusal_of(tree, state, schedule)
 }
 
-// Number and place of the answer, the run's counts and the number of rows written; if refused, all counts 0 and no rows.
-#[derive(Clone, Copy)]
-pub(crate) struct Reported {
-    pub number: u32,
-    pub place: u32,
-    pub counts: Counts,
-    pub rows: u32,
-}
-
-// The steps of a schedule, reported.
+// The steps of a schedule, reported; the run's counts.
 pub(crate) fn run_reported(
-    tree: TreeWords,
-    tails: &mut [u16; 64],
-    nexts: &mut [u16; 320],
-    statuses: &mut [u64; 320],
-    places: &mut [u8; 256],
-    domains: &mut [u8; 256],
-    peers: &mut [u16; 256],
-    words: &mut [u64; 256],
-    ticket: &mut u16,
-    granted: &mut u16,
-    entries: &mut [u64; 64],
-    tenures: &mut [u64; 64],
-    longest: &mut [u64; 64],
+    tree: &TreeWords,
+    state: &mut LockState,
     schedule: &[u16],
     trace: &mut [u16],
     rows: &mut [u16],
-) -> Reported
-    requires { Typed (lent_state tails.old nexts.old statuses.old places.old domains.old peers.old words.old ticket.old granted.old) }
-    ensures result_value { let before = lent_lock tails.old nexts.old statuses.old places.old domains.old peers.old words.old ticket.old granted.old entries.old tenures.old longest.old in
-        result ≡ reported_beside (kinds_answer tree before schedule.now trace.old rows.old) }
-    ensures after_after { let before = lent_lock tails.old nexts.old statuses.old places.old domains.old peers.old words.old ticket.old granted.old entries.old tenures.old longest.old in
-        let after = lent_lock tails.new nexts.new statuses.new places.new domains.new peers.new words.new ticket.new granted.new entries.new tenures.new longest.new in
-        after ≡ (kinds_answer tree before schedule.now trace.old rows.old).state }
-    ensures trace_after { let before = lent_lock tails.old nexts.old statuses.old places.old domains.old peers.old words.old ticket.old granted.old entries.old tenures.old longest.old in
-        trace.new ≡ kinds_trace tree before schedule.now trace.old rows.old }
-    ensures rows_after { let before = lent_lock tails.old nexts.old statuses.old places.old domains.old peers.old words.old ticket.old granted.old entries.old tenures.old longest.old in
-        rows.new ≡ kinds_rows tree before schedule.now trace.old rows.old }
+) -> Result<Counts, Refusal>
+    ensures refused { refusal_of result ≡ kinds_refusal (tree_of tree.now) state.old schedule.now (length trace.old) (length rows.old) }
+    ensures counts { IfOk result (λ counts. counts ≡ (run (tree_of tree.now) schedule.now state.old.words).counts) }
+    ensures state_after { state.new ≡ (kinds_answer tree.now state.old schedule.now trace.old rows.old).state }
+    ensures trace_after { trace.new ≡ kinds_trace tree.now state.old schedule.now trace.old rows.old }
+    ensures rows_after { rows.new ≡ kinds_rows tree.now state.old schedule.now trace.old rows.old }
 {
+    refusal_of(tree, state, schedule, trace.len(), rows.len())?;
     let mut kinds = [0u32; 6];
-    let r = refusal_of(
-        tree,
-        tails,
-        nexts,
-        statuses,
-        places,
-        domains,
-        peers,
-        words,
-        *ticket,
-        *granted,
-        entries,
-        tenures,
-        longest,
-        schedule,
-        trace.len(),
-        rows.len(),
-    );
-    if r.number != 0 {
-        let counts = run::counts_of(&kinds);
-        return Reported {
-            number: r.number,
-            place: r.place,
-            counts,
-            rows: 0,
-        };
-    }
-    run::run_lent(
-        tree, tails, nexts, statuses, places, domains, peers, words, ticket, granted, schedule,
-        trace, &mut kinds, rows, entries, tenures, longest,
-    );
+    run::run_lent(tree, state, schedule, trace, &mut kinds, rows);
     spread(&tree.homes, schedule, rows);
-    let counts = run::counts_of(&kinds);
-    let written = casts::index_number(schedule.len());
-    Reported {
-        number: 0,
-        place: 0,
-        counts,
-        rows: written,
-    }
+    Ok(run::counts_of(&kinds))
 }

@@ -266,45 +266,25 @@ fn piece_end(from: usize, whole: usize) -> usize
     from + 1024
 }
 
-// The run of a whole schedule in pieces on borrowed arrays: the rows of its waits, starting from the attempts under way; the numbers under way after it; and the counters of the domains. The buffer that reports the steps holds one piece.
+// The run of a whole schedule in pieces: the rows of its waits, starting from the attempts under way; the numbers under way after it; and the counters of the domains. The buffer that reports the steps holds one piece.
 pub(crate) fn run_counted(
-    tree: TreeWords,
-    tails: &mut [u16; 64],
-    nexts: &mut [u16; 320],
-    statuses: &mut [u64; 320],
-    places: &mut [u8; 256],
-    domains: &mut [u8; 256],
-    peers: &mut [u16; 256],
-    words: &mut [u64; 256],
-    ticket: &mut u16,
-    granted: &mut u16,
-    entries: &mut [u64; 64],
-    tenures: &mut [u64; 64],
-    longest: &mut [u64; 64],
+    tree: &TreeWords,
+    state: &mut LockState,
     schedule: &[u16],
     trace: &mut [u16],
     kinds: &mut [u32; 6],
     rows: &mut [u64],
     under_way: &mut [u64; 256],
 )
-    requires typed { Typed (lent_state tails.old nexts.old statuses.old places.old domains.old peers.old words.old ticket.old granted.old) }
-    requires trace_value { let lent = lent_state tails.old nexts.old statuses.old places.old domains.old peers.old words.old ticket.old granted.old in
-        (run_refusal (tree_of tree) (lock_state lent (counters_in entries.old tenures.old longest.old)) schedule.now (length trace.old)).number ≡ 0 }
-    requires tree_in_bounds { 5 * ((tree_of tree).threads + 1) ≤ length rows.old }
+    requires trace_value { (run_refusal (tree_of tree.now) state.old schedule.now (length trace.old)).number ≡ 0 }
+    requires tree_in_bounds { 5 * ((tree_of tree.now).threads + 1) ≤ length rows.old }
     requires handed_in { HandedIn under_way.old }
-    ensures after_after { let before = lent_state tails.old nexts.old statuses.old places.old domains.old peers.old words.old ticket.old granted.old in
-        let after = lent_state tails.new nexts.new statuses.new places.new domains.new peers.new words.new ticket.new granted.new in
-        after ≡ (run (tree_of tree) schedule.now before).state }
-    ensures trace_after { let before = lent_state tails.old nexts.old statuses.old places.old domains.old peers.old words.old ticket.old granted.old in
-        trace.new ≡ trace_front trace.old (run (tree_of tree) schedule.now before) }
-    ensures kinds_after { let before = lent_state tails.old nexts.old statuses.old places.old domains.old peers.old words.old ticket.old granted.old in
-        kinds.new ≡ kinds_of (steps (tree_of tree) schedule.now before) }
-    ensures rows_after { let before = lent_state tails.old nexts.old statuses.old places.old domains.old peers.old words.old ticket.old granted.old in
-        rows.new ≡ sets rows.old 0 (all_rows_from (tree_of tree) under_way.old (steps (tree_of tree) schedule.now before)) }
-    ensures under_way_after { let before = lent_state tails.old nexts.old statuses.old places.old domains.old peers.old words.old ticket.old granted.old in
-        under_way.new ≡ sets (replicate 256 0) 0 (under_way_below (tree_of tree) under_way.old (tree_of tree).threads (steps (tree_of tree) schedule.now before)) }
-    ensures longest_after { let before = lent_state tails.old nexts.old statuses.old places.old domains.old peers.old words.old ticket.old granted.old in
-        counters_in entries.new tenures.new longest.new ≡ counters_after (tree_of tree) (counters_in entries.old tenures.old longest.old) (steps (tree_of tree) schedule.now before) }
+    ensures words_after { state.new.words ≡ (run (tree_of tree.now) schedule.now state.old.words).state }
+    ensures trace_after { trace.new ≡ trace_front trace.old (run (tree_of tree.now) schedule.now state.old.words) }
+    ensures kinds_after { kinds.new ≡ kinds_of (steps (tree_of tree.now) schedule.now state.old.words) }
+    ensures rows_after { rows.new ≡ sets rows.old 0 (all_rows_from (tree_of tree.now) under_way.old (steps (tree_of tree.now) schedule.now state.old.words)) }
+    ensures under_way_after { under_way.new ≡ sets (replicate 256 0) 0 (under_way_below (tree_of tree.now) under_way.old (tree_of tree.now).threads (steps (tree_of tree.now) schedule.now state.old.words)) }
+    ensures counters_after { state.new.counters ≡ counters_after (tree_of tree.now) state.old.counters (steps (tree_of tree.now) schedule.now state.old.words) }
 {
     let mut marks = [0u64; 256];
     set_marks(&mut marks, under_way);
@@ -319,25 +299,7 @@ pub(crate) fn run_counted(
         let mut codes = [0u16; 1024];
         let mut piece = [0u32; 6];
         let written = (entered - FIRST) as usize;
-        lock::steps::run::run_lent(
-            tree,
-            tails,
-            nexts,
-            statuses,
-            places,
-            domains,
-            peers,
-            words,
-            ticket,
-            granted,
-            &schedule[from..end],
-            &mut trace[written..],
-            &mut piece,
-            &mut codes,
-            entries,
-            tenures,
-            longest,
-        );
+        lock::steps::run::run_lent(tree, state, &schedule[from..end], &mut trace[written..], &mut piece, &mut codes);
         add_kinds(&mut tally, &piece);
         entered = count_piece(
             tree,
