@@ -1,2 +1,1 @@
--- Facts that the proofs of the calls share.
-pub mod Reporting
+-- The proofs of the calls; the facts that they share are in the folder steps.

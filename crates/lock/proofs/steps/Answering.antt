@@ -14,26 +14,30 @@ use Rattle.model.specs.declared.Counters.{Counters}
 use Rattle.model.specs.declared.LockState.{LockState}
 use Rattle.model.specs.declared.Counts.{Counts}
 use Rattle.model.specs.declared.RunReply.{RunReply}
+use Rattle.model.specs.declared.StepReply.{StepReply}
 use Rattle.model.specs.Trees.{Tree, tree_of}
 use Rattle.model.specs.Steps.{Step, step}
 use Rattle.model.specs.Runs.{steps, state_after, counts_of, Run, run_of, run}
 use Rattle.model.specs.Counters.{lock_state, counters_after}
 use Rattle.model.specs.Refusals as model
-use Rattle.model.specs.Refusals.{refusal, Test, first_refusal, entry_tests, room_tests, tree_tests, counter_tests, has_number, bad_length, bad_entry, bad_room, step_tests_before_19, step_tests, run_tests_before_19, run_tests, step_refusal, run_refusal}
-use Rattle.model.specs.Answers.{counters_after_run, first_kind, first_domain, step_reply, step_answer, run_refused, run_reply, run_buffer, run_answer, trace_answer}
+use Rattle.model.specs.Refusals.{refusal, accepted, Test, first_refusal, entry_tests, room_tests, tree_tests, counter_tests, has_number, bad_length, bad_entry, bad_room, step_tests_before_19, step_tests, run_tests_before_19, run_tests, step_refusal, run_refusal}
+use Rattle.model.specs.Answers.{counters_after_run, first_kind, first_domain, step_reply, step_answer, run_reply, run_buffer, run_answer, trace_answer}
 use Rattle.model.proofs.Laws.Runs.{steps_length}
 use Rattle.model.specs.Laws.{Numbered}
 use Rattle.model.proofs.Refusing.{numbered}
 use Rattle.model.proofs.Laws.Calls.{early_accepted, run_facts}
 use Rattle.model.proofs.Laws.Refusals.{accepted_number, run_numbered_before_19}
-use Rattle.refusals.specs.declared.Refusal.{Refusal}
-use Rattle.refusals.specs.Arrays.{refusal_words, tree_state_tests, schedule_room_tests}
+use Rattle.refusals.specs.declared.reasons.Refusal.{Refusal}
+use Rattle.refusals.specs.Reasons.{number_of}
+use Rattle.refusals.specs.Arrays.{tree_state_tests, schedule_room_tests}
 use Rattle.refusals.proofs.Scanning.{single_hit, single_missed}
 use Rattle.refusals.proofs.Joining.{first_decides, other_decides, state_numbered}
-use Rattle.refusals.proofs.RunTests.{refusal_words_not, refusal_words_zero}
+use Rattle.refusals.proofs.Refusing.{ok_numbered, error_numbered}
 use Rattle.lock.proofs.steps.SoFar.{counts_kinds, thread_at, below}
 use Rattle.lock.proofs.steps.StepCodes.{code_kind, domain_of_code}
 use Rattle.rows.specs.Common.Standing.{row_domain}
+use Rattle.lock.specs.declared.TakenStep.{TakenStep}
+use Rattle.lock.specs.Lent.{taken_first}
 use Rattle.lock.specs.Steps.Running.{kinds_of, counts_by, trace_front, step_code, codes_front}
 
 -- a run that is not refused passes the tests before 19
@@ -130,37 +134,62 @@ reported_first w s (i ∷ is) room z codes₀ codes l e =
           ∙ domain_of_code w s.words i R.form (thread_at (tree_of w) (i ∷ is) R.threads 0 (omega arith)) (below (tree_of w) (i ∷ is) R.tree R.threads 0 (omega arith))),
     )
 
+-- A STEP's reply: that of the run of its one entry
+module _ (w : TreeWords) (s : LockState) (i : ℕ) (b : List ℕ) (one : length b ≡ 1) where
+  abbrev run_reply_is : RunReply
+  run_reply_is = run_answer w s (i ∷ []) b
+
+  pub step_refusal_is : (r : model.Refusal) → r ≡ run_refusal (tree_of w) s (i ∷ []) (length b) → r ≡ step_refusal (tree_of w) s i
+  step_refusal_is r e = e ∙ ap (run_refusal (tree_of w) s (i ∷ [])) one ∙ sym (one_refusal (tree_of w) i s)
+
+  pub step_state_is : run_reply_is.state ≡ (step_answer w s i).state
+  step_state_is = ap (λ (r : StepReply). r.state) (step_reported w s i b one)
+
+module _ (w : TreeWords) (s left : LockState) (i : ℕ) (e : left ≡ (step_answer w s i).state) where
+  pub step_passes : (q : TakenStep) → q ≡ taken_first (tree_of w) s.words i → accepted ≡ step_refusal (tree_of w) s i →
+      record { number = 0; place = 0; kind = q.kind; domain = q.domain; state = left } ≡ step_answer w s i
+  unfolding step_answer step_reply
+  step_passes q f z = let p = eq-eqb (step_refusal (tree_of w) s i).number 0 (ok_numbered z) in rw (f, e, p)
+
+  pub step_refuses : (x : Refusal) → refusal (number_of x.reason) x.place ≡ step_refusal (tree_of w) s i →
+      record { number = number_of x.reason; place = x.place; kind = 0; domain = 0; state = left } ≡ step_answer w s i
+  unfolding step_answer step_reply refusal
+  step_refuses x f = let p = ne_eqb (step_refusal (tree_of w) s i).number 0 (error_numbered x f) in rw (e, p, sym f)
+
 -- A RUN
-module _ (w : TreeWords) (s : LockState) (is b : List ℕ) (r : Refusal) (e : r ≡ refusal_words (run_refusal (tree_of w) s is (length b))) where
-  pub run_refuses :
-      (y : RunReply) → (r.number ≡ 0 → ⊥) → y ≡ run_refused (refusal r.number r.place) s → (y ≡ run_answer w s is b) × (b ≡ trace_answer w s is b)
-  unfolding run_answer run_reply trace_answer run_buffer refusal
-  run_refuses y n f =
-      let m = ne_eqb (run_refusal (tree_of w) s is (length b)).number 0 (refusal_words_not r _ e n) in
-      (f ∙ rw (e, m), rw m)
+module _ (w : TreeWords) (s : LockState) (is b : List ℕ) where
+  module _ (n : (run_refusal (tree_of w) s is (length b)).number ≡ 0 → ⊥) where
+    pub refused_state : s ≡ (run_answer w s is b).state
+    unfolding run_answer run_reply
+    refused_state = rw (ne_eqb (run_refusal (tree_of w) s is (length b)).number 0 n)
 
-  module _ (z : r.number ≡ 0) where
-    pub run_passes : (run_refusal (tree_of w) s is (length b)).number ≡ 0
-    run_passes = refusal_words_zero r _ e z
+    pub refused_trace : b ≡ trace_answer w s is b
+    unfolding trace_answer run_buffer
+    refused_trace = rw (ne_eqb (run_refusal (tree_of w) s is (length b)).number 0 n)
 
+  module _ (z : (run_refusal (tree_of w) s is (length b)).number ≡ 0) where
     pub early_passes : (first_refusal (run_tests_before_19 (tree_of w) s is (length b))).number ≡ 0
-    early_passes = early_run (tree_of w) s is (length b) run_passes
+    early_passes = early_run (tree_of w) s is (length b) z
 
     pub kinds_few : (kinds : List ℕ) → kinds ≡ kinds_of (steps (tree_of w) is s.words) → (counts_by kinds).steps ≤ 65536
     unfolding counts_of
     kinds_few kinds f =
         let n : (counts_by kinds).steps ≡ length (steps (tree_of w) is s.words) = ap (λ v. (counts_by v).steps) f ∙ ap (λ v. v.steps) (counts_kinds (steps (tree_of w) is s.words)) in
-        omega (arith, n, steps_length (tree_of w) is s.words, (run_facts (tree_of w) s is (length b) run_passes).short)
+        omega (arith, n, steps_length (tree_of w) is s.words, (run_facts (tree_of w) s is (length b) z).short)
 
     pub first_small : 0 < length is → get_or is 0 0 < 256
-    first_small l = let R = run_facts (tree_of w) s is (length b) run_passes in below (tree_of w) is R.tree R.threads 0 l
+    first_small l = let R = run_facts (tree_of w) s is (length b) z in below (tree_of w) is R.tree R.threads 0 l
 
-    pub run_answered :
-        (n : State) (b' kinds : List ℕ) (counts : Counts) (c : Counters) → n ≡ (run (tree_of w) is s.words).state → b' ≡ trace_front b (run (tree_of w) is s.words) →
-        kinds ≡ kinds_of (steps (tree_of w) is s.words) → counts ≡ counts_by kinds →
-        c ≡ counters_after (tree_of w) s.counters (steps (tree_of w) is s.words) →
-        (record { number = 0; place = 0; counts = counts; state = lock_state n c } ≡ run_answer w s is b) × (b' ≡ trace_answer w s is b)
-    unfolding run_answer run_reply trace_answer run_buffer counters_after_run run run_of
-    run_answered n b' kinds counts c g h k f counted =
-        let p = eq-eqb (run_refusal (tree_of w) s is (length b)).number 0 run_passes in
-        (rw (g, f, k, counted, counts_kinds (steps (tree_of w) is s.words), p), h ∙ rw p)
+    pub passed_state : (left : LockState) → left.words ≡ (run (tree_of w) is s.words).state → left.counters ≡ counters_after (tree_of w) s.counters (steps (tree_of w) is s.words) →
+        left ≡ (run_answer w s is b).state
+    unfolding run_answer run_reply counters_after_run
+    passed_state left g f = let p = eq-eqb (run_refusal (tree_of w) s is (length b)).number 0 z in (rw (g, f)) ∙ rw p
+
+    pub passed_trace : (b' : List ℕ) → b' ≡ trace_front b (run (tree_of w) is s.words) → b' ≡ trace_answer w s is b
+    unfolding trace_answer run_buffer
+    passed_trace b' h = h ∙ rw (eq-eqb (run_refusal (tree_of w) s is (length b)).number 0 z)
+
+-- the counts of a run, from how many of its steps are of each kind
+pub counts_run : (w : TreeWords) (s : LockState) (is : List ℕ) (kinds : List ℕ) (counts : Counts) → kinds ≡ kinds_of (steps (tree_of w) is s.words) → counts ≡ counts_by kinds → counts ≡ (run (tree_of w) is s.words).counts
+unfolding run run_of
+counts_run w s is kinds counts k f = rw (f, k) (counts_kinds (steps (tree_of w) is s.words))
