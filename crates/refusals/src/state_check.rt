@@ -10,23 +10,6 @@ use model::{LockState, TreeWords};
 pub fn check_state(tree: TreeWords, state: LockState) -> Refusal
     ensures { result ≡ refusal_words (check_answer tree state) }
 {
-    let counters = state.counters;
     let schedule = [0u16; 0];
-    crate::of_runs::lent_refusal_of(
-        tree,
-        &state.words.tails,
-        &state.words.nexts,
-        &state.words.statuses,
-        &state.words.places.rows,
-        &state.words.places.domains,
-        &state.words.places.peers,
-        &state.words.places.words,
-        state.words.ticket,
-        state.words.grant,
-        &counters.entries,
-        &counters.tenures,
-        &counters.longest,
-        &schedule,
-        0,
-    )
+    crate::of_runs::lent_refusal_of(&tree, &state, &schedule, 0)
 }

@@ -1,7 +1,7 @@
 -- `refusals::of_runs::lent_refusal_of` meets its contract: the tests of the tree, of the state's counters and of its words, then the schedule's.
 use mathlib.Core.Path.{◌∙◌}
 use mathlib.Core.Bool.{true, false}
-use borrow.Author.Tests.{not-true, not-false}
+use borrow.Author.Rules.{rules}
 use Rattle.model.specs.Trees.{tree_of}
 use Rattle.refusals.proofs.Reading.{refusal_words_same}
 use Rattle.refusals.proofs.Scanning.{by_answer}
@@ -9,17 +9,17 @@ use Rattle.refusals.proofs.of_runs.StateTests.{tree_refuses, counts_refuse, word
 use Rattle.refusals.proofs.of_runs.lent_refusal_of.Goals as goal
 
 pub returns-then-r-ne0 : goal.returns-then-r-ne0
-returns-then-r-ne0 c = tree_refuses c.args.tree _ _ _ _ (c.tree_refusal_of-r.ensures ∙ refusal_words_same c.args.tree) c.if-r-ne0.true
+returns-then-r-ne0 c = tree_refuses c.args.tree.now _ _ _ _ (c.tree_refusal_of-r.ensures ∙ refusal_words_same c.args.tree.now) c.if-r-ne0.true
 
 pub returns-then-not-good_counts : goal.returns-then-not-good_counts
-returns-then-not-good_counts c = counts_refuse c.args.tree _ _ _ _ (c.tree_refusal_of-r.ensures ∙ refusal_words_same c.args.tree) c.if-r-ne0.false (by_answer _ false (c.good_counts.ensures ∙ counts_of_tree c.args.tree _) (not-true _ c.if-not-good_counts.true-raw)) _ c.refusal_at.ensures
+returns-then-not-good_counts c = counts_refuse c.args.tree.now _ _ _ _ (c.tree_refusal_of-r.ensures ∙ refusal_words_same c.args.tree.now) c.if-r-ne0.false (by_answer _ false (c.good_counts.ensures ∙ counts_of_tree c.args.tree.now _) (search rules)) _ c.refusal_at.ensures
 
 pub is_well_formed-requires : goal.is_well_formed-requires
-is_well_formed-requires c = tree_accepted (tree_of c.args.tree) c.tree_refusal_of-r.result (c.tree_refusal_of-r.ensures ∙ refusal_words_same c.args.tree) c.if-r-ne0.false
+is_well_formed-requires c = tree_accepted (tree_of c.args.tree.now) c.tree_refusal_of-r.result (c.tree_refusal_of-r.ensures ∙ refusal_words_same c.args.tree.now) c.if-r-ne0.false
 
 pub returns-then-not-is_well_formed : goal.returns-then-not-is_well_formed
-returns-then-not-is_well_formed c = words_refuse c.args.tree _ _ _ _ (c.tree_refusal_of-r.ensures ∙ refusal_words_same c.args.tree) c.if-r-ne0.false (by_answer _ false c.is_well_formed.ensures (not-true _ c.if-not-is_well_formed.true-raw)) _ c.refusal_at-then-not-is_well_formed.ensures
+returns-then-not-is_well_formed c = words_refuse c.args.tree.now _ _ _ _ (c.tree_refusal_of-r.ensures ∙ refusal_words_same c.args.tree.now) c.if-r-ne0.false (by_answer _ false c.is_well_formed.ensures (search rules)) _ c.refusal_at-then-not-is_well_formed.ensures
 
 pub returns : goal.returns
-returns c = schedule_answers c.args.tree _ _ _ _ (c.tree_refusal_of-r.ensures ∙ refusal_words_same c.args.tree) c.if-r-ne0.false (by_answer _ true (c.good_counts.ensures ∙ counts_of_tree c.args.tree _) (not-false _ c.if-not-good_counts.false-raw))
-    (by_answer _ true c.is_well_formed.ensures (not-false _ c.if-not-is_well_formed.false-raw)) _ c.schedule_refusal_of.ensures
+returns c = schedule_answers c.args.tree.now _ _ _ _ (c.tree_refusal_of-r.ensures ∙ refusal_words_same c.args.tree.now) c.if-r-ne0.false (by_answer _ true (c.good_counts.ensures ∙ counts_of_tree c.args.tree.now _) (search rules))
+    (by_answer _ true c.is_well_formed.ensures (search rules)) _ c.schedule_refusal_of.ensures
