@@ -1,7 +1,7 @@
 -- The tests with the table of owners together: a state passes them exactly if it is well formed.
 use mathlib.Core.Path.{◌≡◌, refl, sym, ap, ◌∙◌}
 use mathlib.Core.Bool.{Bool, true, false, ◌&&◌, ◌||◌, not, cond}
-use mathlib.Core.List.{List, []}
+use mathlib.Core.List.{List}
 use mathlib.Core.Logic.{◌⊎◌, inl, inr, ⊎_elim}
 use Prim.Native.Nat.{ℕ, zero, suc, ◌+◌, ◌-◌, ◌≤◌, ◌<◌}
 use native.Mathlib.Omega.{arith}
@@ -21,8 +21,7 @@ use Rattle.model.proofs.Places.{idle_numbers}
 use Rattle.model.proofs.Trees.Accepted.{Accepted}
 use Rattle.model.proofs.Trees.Tickets.{ticket_lower}
 use Rattle.model.proofs.Tests.{and_true, and_grouped, all_same, by_test}
-use Rattle.model.proofs.Trees.Reading.{read_in}
-use Rattle.refusals.specs.Arrays.{tree_in, parents_in}
+use Rattle.refusals.specs.Arrays.{parents_in}
 use Rattle.refusals.specs.OfRuns.Tables.{Owners, member_in, next_in, record_in, domain_words_in, ticket_place_in, place_in, root_in, idle_in, thread_in}
 use Rattle.refusals.proofs.Meeting.{meets_same, child_same}
 use Rattle.refusals.proofs.of_runs.Members.{owner_low, tail_is, record_is}
@@ -57,18 +56,7 @@ place_same :
 unfolding place_in ticket_place_in
 place_same k t u os vs i h q f = rw (meets_same 6 t u h q.domain f, child_same 6 t u 0 h f)
 
--- the table has the home of each thread
-pub owner_is : (n m : ℕ) (ps hs os : List ℕ) → Owners (tree_in n m ps [] hs) os → m ≤ 256 → (i : ℕ) → i < m → get_or os i 0 ≡ get_or hs i 0
-unfolding is_record owner_domain tree_of
-owner_is n m ps hs os owned few i l =
-    owned.owner i (omega arith) ∙ rw (lt-ltb i 256 (omega arith), lt-ltb i m l, read_in 0 m hs i (omega arith) l)
-
-module _ (w : TreeWords) (valid : Accepted (tree_of w)) (os : List ℕ) (owned : Owners (tree_in w.domains w.threads w.parents [] w.homes) os) where
-  -- members do not depend on thresholds
-  owners : Owners (tree_of w) os
-  unfolding is_record owner_domain tree_of
-  owners = record { owner = λ r l. owned.owner r l }
-
+module _ (w : TreeWords) (valid : Accepted (tree_of w)) (os : List ℕ) (owners : Owners (tree_of w) os) where
   pub owner_home : (i : ℕ) → i < w.threads → get_or os i 0 ≡ (tree_of w).home i
   unfolding is_record owner_domain tree_of
   owner_home i l =

@@ -2,7 +2,7 @@
 use mathlib.Core.Path.{◌≡◌, refl, sym, ap, ◌∙◌}
 use mathlib.Core.Bool.{Bool, true, false, ◌&&◌, false≢true}
 use mathlib.Core.Logic.{◌≢◌, ◌⊎◌, inl, inr, ⊎_elim}
-use mathlib.Core.List.{List, []}
+use mathlib.Core.List.{List}
 use Prim.Native.Nat.{ℕ, ◌+◌, ◌-◌, ◌≤◌, ◌<◌}
 use lib.Dec.{eqb}
 use native.Mathlib.Omega.{arith}
@@ -12,16 +12,15 @@ use borrow.Author.Tests.{lt-ltb, le-ltb, eqb-true, eqb-false, ne_eqb}
 use Rattle.model.specs.declared.TreeWords.{TreeWords}
 use Rattle.model.specs.declared.State.{State}
 use Rattle.model.specs.Scans.{all_below}
-use Rattle.model.specs.Trees.{tree_of, is_ticket}
-use Rattle.model.specs.WellFormed.{good_tail, good_next, good_status, good_thread, good_counters, well_formed}
+use Rattle.model.specs.Trees.{tree_of}
+use Rattle.model.specs.WellFormed.{well_formed}
 use Rattle.model.specs.Refusals.{tree_refusal}
 use Rattle.model.specs.States.{numbers_at}
 use Rattle.model.proofs.Tests.{and_both, or_cases, all_each, all_true, and_false}
 use Rattle.model.proofs.Trees.Accepted.{Accepted, accepted, leaf_childless}
-use Rattle.refusals.specs.Arrays.{tree_in, parents_in}
+use Rattle.refusals.specs.Arrays.{parents_in}
 use Rattle.refusals.specs.OfRuns.Tables.{Owners, member_in, next_in, record_in, domain_words_in, tail_and_next_in, ticket_in, barred_in, root_in, idle_in, resting_row, Rest, of_wait, of_idle, HomesThere, used_in, clear_in, unused_in, thread_in}
 use Rattle.refusals.proofs.Reading.{parent_in}
-use Rattle.refusals.proofs.Scanning.{all_fails}
 use Rattle.refusals.proofs.TreeTests.{Shape}
 use Rattle.refusals.proofs.of_runs.Folds.{zero_there, zeros_there, Clear, clear_facts, zero_record, IdleNumbers, idle_facts, idle_test, both_ways}
 use Rattle.refusals.proofs.of_runs.Formed.{owner_home, owner_real, no_record_owner, record_owner, no_member, formed_is}
@@ -40,33 +39,7 @@ module _ (w : TreeWords) (z : (tree_refusal (tree_of w)).number ≡ 0) where
         low = record { lower = λ d p l. rw (parent_in w.domains w.threads w.parents w.thresholds w.homes d p l) at (real.parent_lower d p l) };
       }
 
-  -- root words that fail, whatever the table of owners is
-  counters_fail : (s : State) → eqb w.ticket_root 0 ≡ true → eqb s.ticket 0 && eqb s.grant 0 ≡ false → good_counters (tree_of w) s ≡ false
-  unfolding good_counters tree_of
-  counters_fail s e f = rw (e, f)
-
-  tail_fails : (s : State) → eqb w.ticket_root 0 ≡ false → eqb (get_or s.tails 0 0) 0 ≡ false → good_tail (tree_of w) s 0 ≡ false
-  unfolding good_tail is_ticket tree_of
-  tail_fails s e f = rw (f, e)
-
-  pub root_fails : (s : State) → root_in w.ticket_root (get_or s.tails 0 0) s.ticket s.grant ≡ false → false ≡ well_formed (tree_of w) s
-  unfolding well_formed
-  root_fails s f = by (eqb w.ticket_root 0) refl
-    where
-      last : (a b c d : Bool) → false ≡ (a && b) && (c && (d && false))
-      last true true true true = refl
-      last true true true false = refl
-      last true true false d = refl
-      last true false c d = refl
-      last false b c d = refl
-
-      by : (b : Bool) → eqb w.ticket_root 0 ≡ b → false ≡ well_formed (tree_of w) s
-      by true e =
-          rw (counters_fail s e (rw e at f))
-          (last (all_below 64 (good_tail (tree_of w) s)) (all_below 320 (good_next (tree_of w) s)) (all_below 320 (good_status (tree_of w) s)) (all_below 256 (good_thread (tree_of w) s)))
-      by false e = rw (all_fails 64 (good_tail (tree_of w) s) 0 (omega arith) (tail_fails s e (rw e at f)))
-
-  module _ (os : List ℕ) (owned : Owners (tree_in w.domains w.threads w.parents [] w.homes) os) where
+  module _ (os : List ℕ) (owned : Owners (tree_of w) os) where
     pub home_real : (i : ℕ) → i < w.threads → get_or os i 0 < w.domains
     home_real i l = owner_real w real os owned i l
 

@@ -1,22 +1,22 @@
--- `refusals::of_runs::states::meets_at` meets its contract: the remaining fuel and the domain reached give the same answer as the whole search.
-use mathlib.Core.Path.{refl, sym, ◌∙◌}
+-- `refusals::of_runs::states::meets_at` meets its contract: the levels that are left and the domain reached give the same answer as the whole search.
+use mathlib.Core.Path.{◌≡◌, sym, ◌∙◌}
+use Prim.Native.Nat.{◌+◌, ◌-◌}
 use native.Mathlib.Omega.{arith}
 use Rattle.refusals.proofs.Meeting.{meets_here, meets_root, meets_up, meets_end}
-use borrow.Author.Rules.{rules}
 use Rattle.refusals.proofs.of_runs.states.meets_at.Goals as goal
 
-pub loop-left-init : goal.loop-left-init
-loop-left-init c = (search rules, search rules, refl)
-
 pub returns-then-c-d : goal.returns-then-c-d
-returns-then-c-d c = sym (meets_here _ _ _ _ c.if-c-d.true) ∙ c.loop-left.invariant.2
+returns-then-c-d c = sym (meets_here _ _ _ _ c.if-c-d.true) ∙ c.loop-level.invariant.1
 
 pub returns-then-c-eq0 : goal.returns-then-c-eq0
-returns-then-c-eq0 c = sym (meets_root _ _ _ _ c.if-c-d.false c.if-c-eq0.true) ∙ c.loop-left.invariant.2
+returns-then-c-eq0 c = sym (meets_root _ _ _ _ c.if-c-d.false c.if-c-eq0.true) ∙ c.loop-level.invariant.1
 
-pub loop-left-preserved : goal.loop-left-preserved
-loop-left-preserved c = let low = c.requires.lower.lower c.loop-left.c (omega arith) c.loop-left.invariant.1 in
-    (omega arith, omega arith, sym (meets_up _ _ _ _ _ c.loop-left-test.true c.if-c-d.false c.if-c-eq0.false c.loop-left.invariant.1) ∙ c.loop-left.invariant.2)
+pub loop-level-preserved : goal.loop-level-preserved
+loop-level-preserved c =
+    let i = c.loop-level.invariant in
+    let low = c.requires.lower.lower c.loop-level.c (omega arith) i.0 in
+    let fewer : 6 - (c.loop-level._level + 1) ≡ 6 - c.loop-level._level - 1 = omega arith in
+    rw (c.from.ensures, fewer) (omega (arith, low, i.0), sym (meets_up _ _ _ _ _ (omega arith) c.if-c-d.false c.if-c-eq0.false i.0) ∙ i.1)
 
 pub returns : goal.returns
-returns c = sym (meets_end _ _ _ _ c.loop-left-test.false) ∙ c.loop-left.invariant.2
+returns c = sym (meets_end _ _ _ _ (omega arith)) ∙ c.loop-level.invariant.1
