@@ -127,7 +127,8 @@ fn mark_watching(tree: &TreeWords, words: &State, threads: u32, shown: &mut [boo
 }
 
 // What the type of a state fixes: the lengths of its arrays, and that each number has its bits. A state that is passed by reference says so through this call; the compiler leaves out the copy, which nobody reads.
-fn fits_its_type(state: LockState)
+#[inline(always)]
+pub fn fits_its_type(state: LockState)
     ensures { Typed state.words }
 {
 }
@@ -142,6 +143,7 @@ pub fn run_lent(
     codes: &mut [u16],
 )
     requires { (first_refusal (run_tests_before_19 (tree_of tree.now) state.old schedule.now (length trace.old))).number ≡ 0 }
+    ensures typed { Typed state.old.words }
     ensures words_after { state.new.words ≡ (run (tree_of tree.now) schedule.now state.old.words).state }
     ensures trace_after { trace.new ≡ trace_front trace.old (run (tree_of tree.now) schedule.now state.old.words) }
     ensures kinds_after { kinds.new ≡ kinds_of (steps (tree_of tree.now) schedule.now state.old.words) }

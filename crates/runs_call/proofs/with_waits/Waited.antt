@@ -14,13 +14,13 @@ use Rattle.model.specs.Counters.{lock_state, counters_after}
 use Rattle.model.specs.declared.Counts.{Counts}
 use Rattle.model.specs.Trees.{Tree, tree_of}
 use Rattle.model.specs.Runs.{steps, counts_of, run_of, run}
-use Rattle.model.specs.Refusals.{refusal, run_refusal}
+use Rattle.model.specs.Refusals.{Refusal, refusal, run_refusal}
+use Rattle.refusals.specs.declared.reasons.Refusal as refusals
+use Rattle.refusals.specs.Reasons.{number_of}
+use Rattle.refusals.proofs.Refusing.{error_numbered}
 use Rattle.model.specs.Answers.{counters_after_run, no_counts, run_reply, run_buffer}
 use Rattle.model.proofs.Laws.Runs.{steps_length}
 use Rattle.model.proofs.Laws.Calls.{run_facts}
-use Rattle.refusals.specs.declared.Refusal.{Refusal}
-use Rattle.refusals.specs.Arrays.{refusal_words}
-use Rattle.refusals.proofs.RunTests.{refusal_words_not, refusal_words_zero}
 use Rattle.schedules.specs.Answers.{row_buffer}
 use Rattle.waits.specs.declared.WaitsReply.{WaitsReply}
 use Rattle.waits.specs.Attempts.{under_way_below}
@@ -52,21 +52,28 @@ good t s is room n us e =
     let passes = early_passes t s is room n (early_zero t s is room n ok.0) in
     (sym (ap (λ r. r.number) ((waits_refusal_law t s is room n).rows_fit passes.0 passes.1)) ∙ ok.0, (passes.1, record { small = λ i h. (ok.1 i h).0 }))
 
-module _ (w : TreeWords) (s : LockState) (is b rs us : List ℕ) (r : Refusal) (e : r ≡ refusal_words (waits_on_refusal (tree_of w) s is (length b) (length rs) us)) where
-  -- reply and buffers are those of the call
-  abbrev Answers : WaitsReply → (trace rows under_way : List ℕ) → Type 0
-  Answers y b' rs' us' =
-      (y ≡ waits_on_answer w s is b rs us) × ((b' ≡ waits_on_trace w s is b rs us) × ((rs' ≡ waits_on_rows w s is b rs us) × (us' ≡ waits_on_under_way w s is b rs us)))
+module _ (w : TreeWords) (s : LockState) (is b rs us : List ℕ) where
+  abbrev refused_by : Refusal
+  refused_by = waits_on_refusal (tree_of w) s is (length b) (length rs) us
 
-  pub waits_refuse : (r.number ≡ 0 → ⊥) → Answers (record { number = r.number; place = r.place; counts = no_counts; rows = 0; state = s }) b rs us
-  unfolding waits_on_answer waits_reply run_reply waits_on_trace run_buffer waits_on_rows row_buffer waits_on_under_way refused_on refusal
-  waits_refuse n =
-      let m = ne_eqb (waits_on_refusal (tree_of w) s is (length b) (length rs) us).number 0 (refusal_words_not r _ e n) in
-      (rw (e, m), (rw m, (rw m, rw m)))
+  -- state and buffers are those of the call
+  abbrev Answers : LockState → (trace rows under_way : List ℕ) → Type 0
+  Answers left b' rs' us' =
+      (left ≡ (waits_on_answer w s is b rs us).state) × ((b' ≡ waits_on_trace w s is b rs us) × ((rs' ≡ waits_on_rows w s is b rs us) × (us' ≡ waits_on_under_way w s is b rs us)))
 
-  module _ (z : r.number ≡ 0) where
+  pub waits_refuse : (refused_by.number ≡ 0 → ⊥) → Answers s b rs us
+  unfolding waits_on_answer waits_reply run_reply waits_on_trace run_buffer waits_on_rows row_buffer waits_on_under_way refused_on
+  waits_refuse n = let m = ne_eqb refused_by.number 0 n in (rw m, (rw m, (rw m, rw m)))
+
+  -- the reply with the state that is left
+  pub reply_refused : (x : refusals.Refusal) → refusal (number_of x.reason) x.place ≡ refused_on w s is b rs us → (left : LockState) → left ≡ (waits_on_answer w s is b rs us).state →
+      record { number = number_of x.reason; place = x.place; counts = no_counts; rows = 0; state = left } ≡ waits_on_answer w s is b rs us
+  unfolding waits_on_answer waits_reply run_reply refused_on refusal
+  reply_refused x e left f = let m = ne_eqb refused_by.number 0 (error_numbered x e) in rw (f, m, sym e)
+
+  module _ (z : refused_by.number ≡ 0) where
     pub waits_pass : ((run_refusal (tree_of w) s is (length b)).number ≡ 0) × ((5 * ((tree_of w).threads + 1) ≤ length rs) × HandedIn us)
-    waits_pass = good (tree_of w) s is (length b) (length rs) us (refusal_words_zero r _ e z)
+    waits_pass = good (tree_of w) s is (length b) (length rs) us z
 
     pub waits_kinds_few : (kinds : List ℕ) → kinds ≡ kinds_of (steps (tree_of w) is s.words) → (counts_by kinds).steps ≤ 65536
     unfolding counts_of
@@ -84,16 +91,20 @@ module _ (w : TreeWords) (s : LockState) (is b rs us : List ℕ) (r : Refusal) (
         f ∙ sets-eq xs l 0 (omega arith) ∙ rw z0
 
     pub waits_answered :
-        (n : State) (b' kinds : List ℕ) (counts : Counts) (rs' us' : List ℕ) (c : Counters) → n ≡ (run (tree_of w) is s.words).state → b' ≡ trace_front b (run (tree_of w) is s.words) →
-        kinds ≡ kinds_of (steps (tree_of w) is s.words) → counts ≡ counts_by kinds → rs' ≡ sets rs 0 (all_rows_from (tree_of w) us (steps (tree_of w) is s.words)) →
+        (left : LockState) (b' rs' us' : List ℕ) → left.words ≡ (run (tree_of w) is s.words).state → b' ≡ trace_front b (run (tree_of w) is s.words) →
+        rs' ≡ sets rs 0 (all_rows_from (tree_of w) us (steps (tree_of w) is s.words)) →
         us' ≡ sets (replicate 256 0) 0 (under_way_below (tree_of w) us (tree_of w).threads (steps (tree_of w) is s.words)) →
-        c ≡ counters_after (tree_of w) s.counters (steps (tree_of w) is s.words) →
-        Answers (record { number = 0; place = 0; counts = counts; rows = (tree_of w).threads + 1; state = lock_state n c }) b' rs' us'
-    unfolding waits_on_answer waits_reply run_reply waits_on_trace run_buffer waits_on_rows row_buffer waits_on_under_way refused_on counters_after_run run run_of
-    waits_answered n b' kinds counts rs' us' c g h k y f u counted =
+        left.counters ≡ counters_after (tree_of w) s.counters (steps (tree_of w) is s.words) → Answers left b' rs' us'
+    unfolding waits_on_answer waits_reply run_reply waits_on_trace run_buffer waits_on_rows row_buffer waits_on_under_way refused_on counters_after_run
+    waits_answered left b' rs' us' g h f u c =
         let xs = steps (tree_of w) is s.words in
-        let p = eq-eqb (waits_on_refusal (tree_of w) s is (length b) (length rs) us).number 0 (refusal_words_zero r _ e z) in
+        let p = eq-eqb refused_by.number 0 z in
         let rows = stored (all_rows_from (tree_of w) us xs) rs rs' f (omega (arith, all_from_long (tree_of w) us xs, waits_pass.1.0)) in
         let long = numbers_long (tree_of w) us xs (tree_of w).threads in
         let numbers = stored (under_way_below (tree_of w) us (tree_of w).threads xs) (replicate 256 0) us' u (omega (arith, long, waits_threads_few, length-replicate {A = ℕ} 256 0)) in
-        (rw (g, y, k, counted, counts_kinds xs, p), (h ∙ rw p, (rows ∙ rw p, numbers ∙ rw (long, drop_zeros 256 (tree_of w).threads, p))))
+        (rw (g, c) ∙ rw p, (h ∙ rw p, (rows ∙ rw p, numbers ∙ rw (long, drop_zeros 256 (tree_of w).threads, p))))
+
+    pub reply_accepted : (counts : Counts) (left : LockState) → counts ≡ (run (tree_of w) is s.words).counts → left ≡ (waits_on_answer w s is b rs us).state →
+        record { number = 0; place = 0; counts = counts; rows = (tree_of w).threads + 1; state = left } ≡ waits_on_answer w s is b rs us
+    unfolding waits_on_answer waits_reply run_reply refused_on
+    reply_accepted counts left k f = let p = eq-eqb refused_by.number 0 z in rw (f, k, p)

@@ -286,6 +286,7 @@ pub(crate) fn run_counted(
     ensures under_way_after { under_way.new ≡ sets (replicate 256 0) 0 (under_way_below (tree_of tree.now) under_way.old (tree_of tree.now).threads (steps (tree_of tree.now) schedule.now state.old.words)) }
     ensures counters_after { state.new.counters ≡ counters_after (tree_of tree.now) state.old.counters (steps (tree_of tree.now) schedule.now state.old.words) }
 {
+    lock::steps::run::fits_its_type(*state);
     let mut marks = [0u64; 256];
     set_marks(&mut marks, under_way);
     let mut attempts = [0u64; 256];
