@@ -1,6 +1,6 @@
 -- What is counted if no domain from a number on is marked, and marks that are all cleared.
-use Rattle.std.proofs.Common.{◌≡◌, ℕ, ◌+◌, ◌<◌, ◌≤◌, max, Bool, false, cond, ◌≢◌, List, get_or, replicate, refl, ap, ◌∙◌, arith, le-ltb, lt-ltb}
-use native.Mathlib.Decide.{ℕ_discrete, dec_lt}
+use Rattle.std.proofs.Common.{◌≡◌, ℕ, ◌+◌, ◌<◌, ◌≤◌, max, Bool, false, cond, List, get_or, replicate, refl, ap, ◌∙◌, arith, le-ltb, lt-ltb}
+use native.Mathlib.Decide.{dec_lt}
 use lib.ListN.{length-replicate}
 use Rattle.model.specs.declared.Counters.{Counters}
 use Rattle.model.proofs.Counted.{indexed_same}

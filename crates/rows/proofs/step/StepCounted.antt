@@ -1,5 +1,5 @@
 -- What one step counts, by the row of its place.
-use Rattle.std.proofs.Common.{◌≡◌, ℕ, Bool, cond, eqb, List, refl, ap, ◌∙◌, arith}
+use Rattle.std.proofs.Common.{◌≡◌, ℕ, Bool, cond, eqb, List, ap, ◌∙◌, arith}
 use Rattle.model.specs.declared.Counters.{Counters}
 use Rattle.model.specs.declared.PlaceWords.{PlaceWords}
 use Rattle.rows.specs.Common.Counting.{added_at, raised_at, Started, CountedShown}

@@ -127,13 +127,7 @@ pub fn looked_at(tree: &TreeWords, row: u8, words: &State) -> u32
 }
 
 // A thread that watches: the domain for whose record it watches is marked if the record has the ticket that a raise shows.
-pub fn mark_shown(
-    tree: &TreeWords,
-    home: u8,
-    q: PlaceWords,
-    words: &State,
-    shown: &mut [bool; 64],
-)
+pub fn mark_shown(tree: &TreeWords, home: u8, q: PlaceWords, words: &State, shown: &mut [bool; 64])
     requires leads_up { LeadsUp tree.now }
     requires home_lt_domains { home < tree.now.domains }
     ensures { shown.new ≡ marked_in tree.now.domains tree.now.parents home words.now.statuses q (wrap (words.now.grant + 1)) shown.old }
@@ -149,12 +143,7 @@ pub fn mark_shown(
 }
 
 // A raise: one more tenure for each marked domain, if any thread was looked at. Then no domain is marked.
-pub fn count_shown(
-    looked: u32,
-    domains: u32,
-    shown: &mut [bool; 64],
-    counters: &mut Counters,
-)
+pub fn count_shown(looked: u32, domains: u32, shown: &mut [bool; 64], counters: &mut Counters)
     requires domains_bound { domains ≤ 64 }
     requires shown_for { ShownFor looked domains shown.old }
     requires room_above { RoomAbove counters.old.tenures }

@@ -1,7 +1,7 @@
 -- `rows::common::counting::count_shown` meets its contract: the domains so far are counted where they are marked.
-use Rattle.std.proofs.Common.{refl, arith, ◌∙◌, get_or-set_other, sym, rules}
+use Rattle.std.proofs.Common.{refl, arith, ◌∙◌, get_or-set_other}
 use Rattle.rows.proofs.common.Counts.{counted_none, counted_past, counted_here}
-use Rattle.rows.proofs.common.Shown.{clear_none, counted_all, unmarked_counted, unmarked_clear}
+use Rattle.rows.proofs.common.Shown.{clear_none, unmarked_counted, unmarked_clear}
 use Rattle.rows.proofs.common.counting.count_shown.Goals.{then-shown-d, else-shown-d}
 use Rattle.rows.proofs.common.counting.count_shown.Goals as goal
 
