@@ -1,121 +1,96 @@
-// The rows of the step table with which a thread acquires, from its start to Inside: what each stores and counts, and what it reports about its step. They write to the arrays that the run lends. `step` calls the row of a place and meets its requirements.
-ghost use Rattle.std.specs.Prelude.{◌≡◌, ◌<◌, ◌≤◌, false, if◌then◌else◌, nat_eq, slice_index};
-ghost use Rattle.model.specs.States.{status, with_ticket};
+// The rows of the step table with which a thread acquires, from its start to Inside: what each stores and counts, and what it reports about its step. `step` calls the row of a place and meets its requirements.
+ghost use Rattle.std.specs.Prelude.{◌≡◌, ◌<◌, false, if◌then◌else◌, nat_eq, slice_index};
 ghost use Rattle.model.specs.Steps.{prep_row, swap_row, link_row, wait_row, draw_row, watch_row};
-ghost use Rattle.refusals.specs.Arrays.{Lower};
 ghost use Rattle.rows.specs.Common.Counting.{parent_in, RoomAbove, record_domain_in, Entered, Started};
-ghost use Rattle.rows.specs.Common.Standing.{is_entry_number, Within};
-ghost use Rattle.rows.specs.Common.Rows.{RowDone, with_tails, with_nexts, with_statuses, Stands, place_at, Above, RootIs};
+ghost use Rattle.rows.specs.Common.Standing.{is_entry_number, LeadsUp, Within};
+ghost use Rattle.rows.specs.Common.Rows.{RowDone, Stands, place_at, Above, RootIs};
 ghost use Rattle.rows.specs.Acquire.Rows.{start_row};
 
 use crate::common::rows::Moved;
 use crate::common::{Member, counting, places, rows};
-use model::{Place, PlaceWords};
+use model::{Counters, Place, PlaceWords, State, TreeWords};
 
-pub fn prep(w: Member, nexts: &mut [u16; 320], statuses: &mut [u64; 320]) -> Moved
+pub fn prep(w: Member, words: &mut State) -> Moved
     requires { Within w }
-    ensures row_done { RowDone (λ t i s. Stands t i w) (λ t i s. prep_row t i w.domain s) result (λ s. with_nexts nexts.old (with_statuses statuses.old s)) (λ s. with_nexts nexts.new (with_statuses statuses.new s)) }
+    ensures row_done { RowDone (λ t i s. Stands t i w) (λ t i s. prep_row t i w.domain s) result words.old words.new }
     ensures kind_value { is_entry_number result.kind ≡ false }
 {
     let l = w.domain;
     let r = w.own as usize;
-    nexts[r] = 0;
-    statuses[r] = rows::root_word_at(l, model::LOCKED, model::WAIT);
+    words.nexts[r] = 0;
+    words.statuses[r] = rows::root_word_at(l, model::LOCKED, model::WAIT);
     rows::moves(model::OTHER_MOVE, Place::Swap(l))
 }
 
-pub fn swap(
-    parents: &[u8; 64],
-    domains: u32,
-    ticket_root: u32,
-    w: Member,
-    tails: &mut [u16; 64],
-    statuses: &mut [u64; 320],
-    entries: &mut [u64; 64],
-    tenures: &mut [u64; 64],
-    longest: &mut [u64; 64],
-) -> Moved
-    requires domains_bound { domains ≤ 64 }
-    requires lower { Lower domains parents.now }
-    requires home_lt_domains { (w.home < domains) × Within w }
-    requires room_above { RoomAbove entries.old × RoomAbove tenures.old }
-    ensures row_done { RowDone (λ t i s. Stands t i w × Above t ticket_root w.domain (slice_index parents.now w.domain)) (λ t i s. swap_row t i w.domain s) result (λ s. with_tails tails.old (with_statuses statuses.old s)) (λ s. with_tails tails.new (with_statuses statuses.new s)) }
-    ensures entered { Entered (parent_in domains parents.now) result.kind w.home entries.old entries.new }
-    ensures started { Started (if nat_eq result.place.row 3 then 0 else record_domain_in w.own) tenures.old tenures.new longest.old longest.new }
+pub fn swap(tree: &TreeWords, w: Member, words: &mut State, counters: &mut Counters) -> Moved
+    requires leads_up { LeadsUp tree.now }
+    requires home_lt_domains { (w.home < tree.now.domains) × Within w }
+    requires room_above { RoomAbove counters.old.entries × RoomAbove counters.old.tenures }
+    ensures row_done { RowDone (λ t i s. Stands t i w × Above t tree.now.ticket_root w.domain (slice_index tree.now.parents w.domain)) (λ t i s. swap_row t i w.domain s) result words.old words.new }
+    ensures entered { Entered (parent_in tree.now.domains tree.now.parents) result.kind w.home counters.old.entries counters.new.entries }
+    ensures started { Started (if nat_eq result.place.row 3 then 0 else record_domain_in w.own) counters.old counters.new }
 {
     let l = w.domain;
-    let own = w.own;
     let d = l as usize;
-    let r = own as usize;
-    let old = tails[d];
-    tails[d] = own + 1;
+    let r = w.own as usize;
+    let old = words.tails[d];
+    words.tails[d] = w.own + 1;
     if old != 0 {
         return rows::moves(model::OTHER_MOVE, Place::Link(l, old - 1));
     }
-    counting::count_given(own, tenures, longest);
+    counting::count_given(w.own, counters);
     if l == 0 {
-        statuses[r] = model::UNLOCKED;
-        counting::count_entry(parents, domains, w.home, entries);
+        words.statuses[r] = model::UNLOCKED;
+        counting::count_entry(tree, w.home, &mut counters.entries);
         return rows::moves(model::ROOT_ENTRY, Place::Inside);
     }
-    statuses[r] = model::COHORT_START;
-    let parent = parents[d];
-    rows::moves(
-        model::OTHER_MOVE,
-        places::acquire_place_at(ticket_root, parent),
-    )
+    words.statuses[r] = model::COHORT_START;
+    let next = places::acquire_place_at(tree.ticket_root, tree.parents[d]);
+    rows::moves(model::OTHER_MOVE, next)
 }
 
-pub fn link(w: Member, before: u16, nexts: &mut [u16; 320]) -> Moved
+pub fn link(w: Member, before: u16, words: &mut State) -> Moved
     requires within { Within w }
     requires before_bound { before < 320 }
-    ensures row_done { RowDone (λ t i s. Stands t i w) (λ t i s. link_row t i w.domain before s) result (λ s. with_nexts nexts.old s) (λ s. with_nexts nexts.new s) }
+    ensures row_done { RowDone (λ t i s. Stands t i w) (λ t i s. link_row t i w.domain before s) result words.old words.new }
     ensures kind_value { is_entry_number result.kind ≡ false }
 {
-    let r = before as usize;
-    nexts[r] = w.own + 1;
+    words.nexts[before as usize] = w.own + 1;
     rows::moves(model::OTHER_MOVE, Place::Wait(w.domain))
 }
 
 pub fn wait(
-    parents: &[u8; 64],
-    domains: u32,
-    ticket_root: u32,
+    tree: &TreeWords,
     w: Member,
     place: PlaceWords,
-    statuses: &mut [u64; 320],
+    words: &mut State,
     entries: &mut [u64; 64],
 ) -> Moved
-    requires domains_bound { domains ≤ 64 }
-    requires lower { Lower domains parents.now }
-    requires home_lt_domains { (w.home < domains) × Within w }
+    requires leads_up { LeadsUp tree.now }
+    requires home_lt_domains { (w.home < tree.now.domains) × Within w }
     requires room_above { RoomAbove entries.old }
-    ensures row_done { RowDone (λ t i s. Stands t i w × (Above t ticket_root w.domain (slice_index parents.now w.domain) × place ≡ place_at s i)) (λ t i s. wait_row t i w.domain s) result (λ s. with_statuses statuses.old s) (λ s. with_statuses statuses.new s) }
-    ensures entered { Entered (parent_in domains parents.now) result.kind w.home entries.old entries.new }
+    ensures row_done { RowDone (λ t i s. Stands t i w × (Above t tree.now.ticket_root w.domain (slice_index tree.now.parents w.domain) × place ≡ place_at s i)) (λ t i s. wait_row t i w.domain s) result words.old words.new }
+    ensures entered { Entered (parent_in tree.now.domains tree.now.parents) result.kind w.home entries.old entries.new }
 {
     let l = w.domain;
     let r = w.own as usize;
-    let v = statuses[r];
+    let v = words.statuses[r];
     if l == 0 {
         if v == model::LOCKED {
             return rows::at_place(model::STAY, place);
         }
-        counting::count_entry(parents, domains, w.home, entries);
+        counting::count_entry(tree, w.home, entries);
         return rows::moves(model::ROOT_ENTRY, Place::Inside);
     }
     if v == model::WAIT {
         return rows::at_place(model::STAY, place);
     }
     if v == model::ACQUIRE_PARENT {
-        statuses[r] = model::COHORT_START;
-        let d = l as usize;
-        let parent = parents[d];
-        return rows::moves(
-            model::OTHER_MOVE,
-            places::acquire_place_at(ticket_root, parent),
-        );
+        words.statuses[r] = model::COHORT_START;
+        let next = places::acquire_place_at(tree.ticket_root, tree.parents[l as usize]);
+        return rows::moves(model::OTHER_MOVE, next);
     }
-    counting::count_entry(parents, domains, w.home, entries);
+    counting::count_entry(tree, w.home, entries);
     if l == w.home {
         return rows::moves(model::PASSED_ENTRY, Place::Inside);
     }
@@ -123,89 +98,57 @@ pub fn wait(
 }
 
 // The thread draws the root's ticket: it goes Inside if the grant shows it, else it watches.
-pub fn draw(
-    parents: &[u8; 64],
-    domains: u32,
-    w: Member,
-    granted: u16,
-    ticket: &mut u16,
-    statuses: &mut [u64; 320],
-    entries: &mut [u64; 64],
-    tenures: &mut [u64; 64],
-    longest: &mut [u64; 64],
-) -> Moved
-    requires domains_bound { domains ≤ 64 }
-    requires lower { Lower domains parents.now }
-    requires home_lt_domains { (w.home < domains) × (Within w × (w.domain ≡ 0)) }
-    requires room_above { RoomAbove entries.old × RoomAbove tenures.old }
-    ensures row_done { RowDone (λ t i s. Stands t i w × (granted ≡ s.grant)) draw_row result (λ s. with_ticket ticket.old (with_statuses statuses.old s)) (λ s. with_ticket ticket.new (with_statuses statuses.new s)) }
-    ensures entered { Entered (parent_in domains parents.now) result.kind w.home entries.old entries.new }
-    ensures started { Started (if nat_eq result.kind 1 then 0 else record_domain_in w.own) tenures.old tenures.new longest.old longest.new }
+pub fn draw(tree: &TreeWords, w: Member, words: &mut State, counters: &mut Counters) -> Moved
+    requires leads_up { LeadsUp tree.now }
+    requires home_lt_domains { (w.home < tree.now.domains) × (Within w × (w.domain ≡ 0)) }
+    requires room_above { RoomAbove counters.old.entries × RoomAbove counters.old.tenures }
+    ensures row_done { RowDone (λ t i s. Stands t i w) draw_row result words.old words.new }
+    ensures entered { Entered (parent_in tree.now.domains tree.now.parents) result.kind w.home counters.old.entries counters.new.entries }
+    ensures started { Started (if nat_eq result.kind 1 then 0 else record_domain_in w.own) counters.old counters.new }
 {
-    let v = *ticket;
-    let r = w.own as usize;
-    *ticket = counting::next_number(v);
-    statuses[r] = v as u64;
-    if v != granted {
+    let v = words.ticket;
+    words.ticket = counting::next_number(v);
+    words.statuses[w.own as usize] = u64::from(v);
+    if v != words.grant {
         return rows::moves(model::OTHER_MOVE, Place::Watch);
     }
-    counting::count_given(w.own, tenures, longest);
-    counting::count_entry(parents, domains, w.home, entries);
+    counting::count_given(w.own, counters);
+    counting::count_entry(tree, w.home, &mut counters.entries);
     rows::moves(model::ROOT_ENTRY, Place::Inside)
 }
 
 pub fn watch(
-    parents: &[u8; 64],
-    domains: u32,
+    tree: &TreeWords,
     w: Member,
-    v: u64,
-    granted: u16,
     place: PlaceWords,
+    words: &State,
     entries: &mut [u64; 64],
 ) -> Moved
-    requires domains_bound { domains ≤ 64 }
-    requires lower { Lower domains parents.now }
-    requires home_lt_domains { (w.home < domains) × (w.domain ≡ 0) }
+    requires leads_up { LeadsUp tree.now }
+    requires home_lt_domains { (w.home < tree.now.domains) × (Within w × (w.domain ≡ 0)) }
     requires room_above { RoomAbove entries.old }
-    ensures row_done { RowDone (λ t i s. Stands t i w × ((v ≡ status s w.own) × ((granted ≡ s.grant) × (place ≡ place_at s i)))) watch_row result (λ s. s) (λ s. s) }
-    ensures entered { Entered (parent_in domains parents.now) result.kind w.home entries.old entries.new }
+    ensures row_done { RowDone (λ t i s. Stands t i w × place ≡ place_at s i) watch_row result words.now words.now }
+    ensures entered { Entered (parent_in tree.now.domains tree.now.parents) result.kind w.home entries.old entries.new }
 {
-    if v != granted as u64 {
+    let v = words.statuses[w.own as usize];
+    if v != u64::from(words.grant) {
         return rows::at_place(model::STAY, place);
     }
-    counting::count_entry(parents, domains, w.home, entries);
+    counting::count_entry(tree, w.home, entries);
     rows::moves(model::ROOT_ENTRY, Place::Inside)
 }
 
 // A thread at home draws if its home is a ticket root, else it does Prep. No tenure starts: the record is the thread's own.
-pub fn start(
-    parents: &[u8; 64],
-    domains: u32,
-    ticket_root: u32,
-    w: Member,
-    granted: u16,
-    ticket: &mut u16,
-    nexts: &mut [u16; 320],
-    statuses: &mut [u64; 320],
-    entries: &mut [u64; 64],
-    tenures: &mut [u64; 64],
-    longest: &mut [u64; 64],
-) -> Moved
-    requires domains_bound { domains ≤ 64 }
-    requires lower { Lower domains parents.now }
-    requires home_lt_domains { (w.home < domains) × (Within w × (w.own < 256)) }
-    requires room_above { RoomAbove entries.old × RoomAbove tenures.old }
-    ensures row_done { RowDone (λ t i s. Stands t i w × (RootIs t ticket_root × (granted ≡ s.grant))) (λ t i s. start_row t i w.domain s) result (λ s. with_ticket ticket.old (with_nexts nexts.old (with_statuses statuses.old s))) (λ s. with_ticket ticket.new (with_nexts nexts.new (with_statuses statuses.new s))) }
-    ensures entered { Entered (parent_in domains parents.now) result.kind w.home entries.old entries.new }
-    ensures started { Started 0 tenures.old tenures.new longest.old longest.new }
+pub fn start(tree: &TreeWords, w: Member, words: &mut State, counters: &mut Counters) -> Moved
+    requires leads_up { LeadsUp tree.now }
+    requires home_lt_domains { (w.home < tree.now.domains) × (Within w × (w.own < 256)) }
+    requires room_above { RoomAbove counters.old.entries × RoomAbove counters.old.tenures }
+    ensures row_done { RowDone (λ t i s. Stands t i w × RootIs t tree.now.ticket_root) (λ t i s. start_row t i w.domain s) result words.old words.new }
+    ensures entered { Entered (parent_in tree.now.domains tree.now.parents) result.kind w.home counters.old.entries counters.new.entries }
+    ensures started { Started 0 counters.old counters.new }
 {
-    if w.domain != 0 {
-        return prep(w, nexts, statuses);
+    if w.domain != 0 || tree.ticket_root == 0 {
+        return prep(w, words);
     }
-    if ticket_root == 0 {
-        return prep(w, nexts, statuses);
-    }
-    draw(
-        parents, domains, w, granted, ticket, statuses, entries, tenures, longest,
-    )
+    draw(tree, w, words, counters)
 }

@@ -1,11 +1,12 @@
 // Where a thread is: the domain of its place, and the record that it uses there.
-ghost use Rattle.std.specs.Prelude.{◌<◌, ◌≤◌};
-ghost use Rattle.refusals.specs.Arrays.{Lower};
-ghost use Rattle.rows.specs.Common.Standing.{MemberOf};
+ghost use Rattle.std.specs.Prelude.{◌<◌};
+ghost use Rattle.rows.specs.Common.Standing.{LeadsUp, MemberOf};
 
 pub mod counting;
 pub mod places;
 pub mod rows;
+
+use model::TreeWords;
 
 // A thread as a member of a domain on its path: its home, the domain, the domain's child on its path, which is 0 at home, and its record there.
 #[derive(Clone, Copy)]
@@ -17,11 +18,10 @@ pub struct Member {
 }
 
 // A thread as a member of a domain: with its own record at home, with that of the domain's child above.
-pub fn member_at(parents: &[u8; 64], domains: u32, i: u16, home: u8, l: u8) -> Member
-    requires domains_bound { domains ≤ 64 }
-    requires lower { Lower domains parents.now }
-    requires i_bound { (i < 256) × ((home < domains) × (l < domains)) }
-    ensures { MemberOf domains parents.now i home l result }
+pub fn member_at(tree: &TreeWords, i: u16, home: u8, l: u8) -> Member
+    requires leads_up { LeadsUp tree.now }
+    requires i_bound { (i < 256) × ((home < tree.now.domains) × (l < tree.now.domains)) }
+    ensures { MemberOf tree.now.domains tree.now.parents i home l result }
 {
     if l == home {
         return Member {
@@ -31,12 +31,11 @@ pub fn member_at(parents: &[u8; 64], domains: u32, i: u16, home: u8, l: u8) -> M
             own: i,
         };
     }
-    let found = refusals::paths::search_at(parents, domains, home, l);
-    let child = found.child;
+    let found = refusals::paths::search_at(&tree.parents, tree.domains, home, l);
     Member {
         home,
         domain: l,
-        child,
-        own: 256 + child as u16,
+        child: found.child,
+        own: 256 + u16::from(found.child),
     }
 }

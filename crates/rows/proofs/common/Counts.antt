@@ -7,6 +7,7 @@ use Rattle.model.specs.Counters.{each_with_index}
 use Rattle.model.proofs.Counted.{indexed_same, indexed_kept, indexed_twice}
 use Rattle.model.proofs.Tests.{and_false}
 use Rattle.model.proofs.Trees.Reading.{read_in}
+use Rattle.model.specs.declared.Counters.{Counters}
 use Rattle.model.specs.declared.PlaceWords.{PlaceWords}
 use Rattle.refusals.specs.Arrays.{Lower}
 use Rattle.rows.specs.Common.Counting.{parent_in, added_at, raised_at, is_watch_in, taken_in, marked_in, Climbed, at_root, one_up, Started, record_domain_in, Entered, is_shown, CountedShown}
@@ -96,20 +97,17 @@ pub climbs_end : (m : ℕ) (ps : List ℕ) (h : ℕ) (es : List ℕ) (c : ℕ) (
 climbs_end m ps h es c vs z k = k.climbed vs (rw z (at_root vs))
 
 -- MARKED DOMAINS, with one more looked at
-pub counted_none : (shown : List Bool) (ts ls : List ℕ) → CountedShown shown 0 ts ts ls ls
-counted_none shown ts ls =
+-- below domain 1 there is only the root, which is not counted
+pub counted_none : (shown : List Bool) (k : Counters) → CountedShown shown 1 k k
+counted_none shown k =
     record {
-      added = sym (indexed_kept _ 0 ts (λ d v. rw (le-ltb d 0 (omega arith)) (none (not (eqb d 0)) v)));
-      raised = sym (indexed_kept _ 0 ls (λ d v. rw (le-ltb d 0 (omega arith)) (nothing (not (eqb d 0)) v)));
+      added = sym (indexed_kept _ 0 k.tenures (λ d v. rw (none d) (omega arith)));
+      raised = sym (indexed_kept _ 0 k.longest (λ d v. rw (none d) (omega arith)));
     }
   where
-    none : (b : Bool) (v : ℕ) → v + cond (b && false) 1 0 ≡ v
-    none true v = omega arith
-    none false v = omega arith
-
-    nothing : (b : Bool) (v : ℕ) → max v (cond (b && false) 1 0) ≡ v
-    nothing true v = omega arith
-    nothing false v = omega arith
+    none : (d : ℕ) → is_shown shown 1 d ≡ false
+    none zero = refl
+    none (suc d) = rw (le-ltb (suc d) 1 (omega arith)) (and_false _)
 
 abbrev number : Bool → ℕ
 number b = cond b 1 0
@@ -156,17 +154,17 @@ shown_next shown k c e d = by (eqb d 0) (get_or shown k false) refl refl
             none true false false = refl
             none false x y = refl
 
-pub counted_next :
-    (shown : List Bool) (k : ℕ) (ts ts' ls ls' : List ℕ) → CountedShown shown k ts ts' ls ls' → (c : ℕ) → c ≡ cond (get_or shown k false) k 0 →
-    (ts'' ls'' : List ℕ) → ts'' ≡ added_at ts' c → ls'' ≡ raised_at ls' c 1 → CountedShown shown (k + 1) ts ts'' ls ls''
-counted_next shown k ts ts' ls ls' g c e ts'' ls'' a b =
+counted_next :
+    (shown : List Bool) (k : ℕ) (old now : Counters) → CountedShown shown k old now → (c : ℕ) → c ≡ cond (get_or shown k false) k 0 →
+    (new : Counters) → new.tenures ≡ added_at now.tenures c → new.longest ≡ raised_at now.longest c 1 → CountedShown shown (k + 1) old new
+counted_next shown k old now g c e new a b =
     record {
       added =
-          a ∙ added_indexed ts' c ∙ ap (each_with_index (λ j v. v + number (is_at c j)) 0) g.added ∙ indexed_twice _ _ 0 ts
-          ∙ indexed_same _ _ 0 ts (λ d v. omega (arith, shown_next shown k c e d));
+          a ∙ added_indexed now.tenures c ∙ ap (each_with_index (λ j v. v + number (is_at c j)) 0) g.added ∙ indexed_twice _ _ 0 old.tenures
+          ∙ indexed_same _ _ 0 old.tenures (λ d v. omega (arith, shown_next shown k c e d));
       raised =
-          b ∙ raised_indexed ls' c 1 ∙ ap (each_with_index (λ j v. max v (number (is_at c j))) 0) g.raised ∙ indexed_twice _ _ 0 ls
-          ∙ indexed_same _ _ 0 ls (λ d v. largest v (is_shown shown k d) (is_at c d) (is_shown shown (k + 1) d) (shown_next shown k c e d));
+          b ∙ raised_indexed now.longest c 1 ∙ ap (each_with_index (λ j v. max v (number (is_at c j))) 0) g.raised ∙ indexed_twice _ _ 0 old.longest
+          ∙ indexed_same _ _ 0 old.longest (λ d v. largest v (is_shown shown k d) (is_at c d) (is_shown shown (k + 1) d) (shown_next shown k c e d));
     }
   where
     largest : (v : ℕ) (x y z : Bool) → number z ≡ number x + number y → max (max v (number x)) (number y) ≡ max v (number z)
@@ -179,23 +177,14 @@ counted_next shown k ts ts' ls ls' g c e ts'' ls'' a b =
     largest v false false true h = absurd (omega arith)
     largest v false false false h = omega arith
 
--- the domains not yet looked at keep their tenures
-pub unmoved :
-    (k c : ℕ) (b : Bool) → c ≡ cond b k 0 → (ts ts' ts'' : List ℕ) → ts'' ≡ added_at ts' c → ((j : ℕ) → k ≤ j → get_or ts' j 0 ≡ get_or ts j 0) →
-    (j : ℕ) → k + 1 ≤ j → get_or ts'' j 0 ≡ get_or ts j 0
-unmoved k c b e ts ts' ts'' a h j l = ap (λ v. get_or v j 0) a ∙ by (eqb c 0) refl ∙ h j (omega arith)
-  where
-    small : (b : Bool) → c ≡ cond b k 0 → c ≤ k
-    small true e = omega arith
-    small false e = omega arith
+-- the counters after a domain that is not marked, and after one that is
+pub counted_past : (shown : List Bool) (k : ℕ) (old now : Counters) → get_or shown k false ≡ false → CountedShown shown k old now → CountedShown shown (k + 1) old now
+counted_past shown k old now e g = counted_next shown k old now g 0 (rw e) now refl refl
 
-    by : (x : Bool) → eqb c 0 ≡ x → get_or (cond x ts' (set ts' c (get_or ts' c 0 + 1))) j 0 ≡ get_or ts' j 0
-    by true z = refl
-    by false z = get_or-set_other ts' c j (get_or ts' c 0 + 1) 0 (λ q. absurd (omega (arith, small b e)))
-
-pub meant : (k c : ℕ) (b : Bool) → c ≡ cond b k 0 → c ≢ 0 → c ≡ k
-meant k c true e n = e
-meant k c false e n = absurd (n e)
+pub counted_here :
+    (shown : List Bool) (k : ℕ) (old now : Counters) → get_or shown k false ≡ true → k ≢ 0 → CountedShown shown k old now →
+    CountedShown shown (k + 1) old (record { entries = now.entries; tenures = set now.tenures k (get_or now.tenures k 0 + 1); longest = set now.longest k (max (get_or now.longest k 0) 1) })
+counted_here shown k old now e n g = counted_next shown k old now g k (rw e) _ (rw (ne_eqb k 0 n)) (rw (ne_eqb k 0 n))
 
 -- ONE MARK
 module _ (m : ℕ) (ps : List ℕ) (h : ℕ) (vs : List ℕ) (q : PlaceWords) (v : ℕ) (bs : List Bool) (c : ℕ) (e : c ≡ taken_in m ps h 0) (n : ℕ) (f : n ≡ v) where
@@ -217,7 +206,7 @@ pub not_entered : (p : ℕ → ℕ) (k h : ℕ) (es : List ℕ) → is_entry_num
 not_entered p k h es e = record { entry = λ z. absurd (false≢true (sym e ∙ z)); other = λ z. refl }
 
 -- a thread's own record starts no tenure
-pub nothing_started : {ts ts' ls ls' : List ℕ} (k : ℕ) {r : ℕ} → r < 256 → Started (cond (eqb k 1) 0 (record_domain_in r)) ts ts' ls ls' → Started 0 ts ts' ls ls'
+pub nothing_started : {old new : Counters} (k : ℕ) {r : ℕ} → r < 256 → Started (cond (eqb k 1) 0 (record_domain_in r)) old new → Started 0 old new
 nothing_started k {r} h g = rw (none (eqb k 1)) at g
   where
     none : (b : Bool) → cond b 0 (record_domain_in r) ≡ 0

@@ -6,12 +6,12 @@ use Rattle.model.specs.declared.PlaceWords.{PlaceWords}
 use Rattle.model.specs.declared.Place.{Place}
 use Rattle.model.specs.declared.Place.TheVariants.{Idle, Prep, Swap, Link, Wait, Inside, Check, Help, Cas, Linger, Grant, Draw, Watch, Raise, Invalid}
 use Rattle.model.specs.declared.State.{State}
-use Rattle.model.specs.declared.PlaceArrays.{PlaceArrays}
+use Rattle.model.specs.declared.Counters.{Counters}
+use Rattle.model.specs.declared.TreeWords.{TreeWords}
 use Rattle.model.specs.Places.{words_of, place_of, place_domain}
 use Rattle.model.specs.Trees.{Tree, tree_of, on_path, is_member, child, child_from, own_record}
 use Rattle.model.specs.Steps.{RowResult, stays, prep_row, swap_row, link_row, wait_row, leave_row, check_row, help_row, cas_row, linger_row, grant_row, draw_row, watch_row, raise_row, row}
 use Rattle.model.specs.WellFormed.{queue_on_path, good_place}
-use Rattle.model.specs.States.{numbers_at}
 use Rattle.model.proofs.Tests.{and_both}
 use Rattle.model.proofs.Places.{words_of_place}
 use Rattle.model.proofs.Trees.Accepted.{Accepted, accepted}
@@ -19,17 +19,17 @@ use Rattle.model.proofs.Trees.Tickets.{queue_facts}
 use Rattle.model.proofs.Trees.Paths.{path_real}
 use Rattle.model.proofs.Trees.Records.{member_small}
 use Rattle.model.proofs.Trees.Reading.{read_in}
-use Rattle.refusals.specs.Arrays.{parents_in, Lower}
+use Rattle.refusals.specs.Arrays.{parents_in}
 use Rattle.refusals.proofs.Reading.{parent_in, home_in}
 use Rattle.refusals.proofs.Meeting.{child_same}
 use Rattle.rows.specs.declared.common.Member.{Member}
 use Rattle.rows.specs.declared.common.rows.Moved.{Moved}
 use Rattle.rows.specs.Common.Counting.{taken_in, record_domain_in, Started}
 use Rattle.rows.specs.Step.Counting.{started_in, ShownLeft, CountedStep}
-use Rattle.rows.specs.Common.Rows.{Done, Stands, Above}
+use Rattle.rows.specs.Common.Rows.{place_at, Done, Stands, Above}
 use Rattle.rows.specs.Acquire.Rows.{start_row}
-use Rattle.rows.specs.Common.Standing.{MemberOf, row_domain}
-use Rattle.rows.specs.Step.OneStep.{tree_at, state_in, Ready, StepDone}
+use Rattle.rows.specs.Common.Standing.{LeadsUp, MemberOf, row_domain}
+use Rattle.rows.specs.Step.OneStep.{Ready, StepDone}
 use Rattle.rows.proofs.step.StepCounted.{other_counted}
 use Rattle.rows.proofs.common.RowPlaces.{place_by_row}
 
@@ -109,39 +109,37 @@ invalid_bad t i e = false≢true e
 domain_back : (d : ℕ) → record_domain_in (256 + d) ≡ d
 domain_back d = let z : ltb (256 + d) 256 ≡ false = le-ltb (256 + d) 256 (omega arith) in rw z (omega arith)
 
--- a thread that is ready for its step, given the tree's numbers and arrays
-pub record Turn (k n m : ℕ) (ps ts hs : List ℕ) (i : ℕ) (q : PlaceWords) : Type 0 where
-  pub ready : Ready (tree_at k n m ps ts hs) i q
+-- a thread that is ready for its step
+pub record Turn (words : TreeWords) (i : ℕ) (q : PlaceWords) : Type 0 where
+  pub ready : Ready (tree_of words) i q
 
-pub turn_of : (k n m : ℕ) (ps ts hs : List ℕ) (i : ℕ) (q : PlaceWords) → Ready (tree_at k n m ps ts hs) i q → Turn k n m ps ts hs i q
-turn_of k n m ps ts hs i q ready = record { ready = ready }
+pub turn_of : (words : TreeWords) (i : ℕ) (q : PlaceWords) → Ready (tree_of words) i q → Turn words i q
+turn_of words i q ready = record { ready = ready }
 
 -- what the code knows from an accepted tree
-module _ {k n m : ℕ} {ps ts hs : List ℕ} {i : ℕ} {q : PlaceWords} (turn : Turn k n m ps ts hs i q) where
+module _ {tree : TreeWords} {i : ℕ} {q : PlaceWords} (turn : Turn tree i q) where
   abbrev t : Tree
-  t = tree_at k n m ps ts hs
+  t = tree_of tree
 
   accepts : Accepted t
   accepts = accepted t turn.ready.tree
 
   pub record Fits : Type 0 where
-    pub few_domains : n ≤ 64
-    pub few_threads : m ≤ 256
-    pub low : Lower n ps
-    pub real : i < m
-    pub home_real : get_or hs i 0 < n
+    pub leads_up : LeadsUp tree
+    pub few_threads : tree.threads ≤ 256
+    pub real : i < tree.threads
+    pub home_real : get_or tree.homes i 0 < tree.domains
 
-  pub home_is : t.home i ≡ get_or hs i 0
+  pub home_is : t.home i ≡ get_or tree.homes i 0
   unfolding tree_of
-  home_is = home_in n m ps ts hs i turn.ready.thread
+  home_is = home_in tree.domains tree.threads tree.parents tree.thresholds tree.homes i turn.ready.thread
 
   pub fits : Fits
   unfolding tree_of
   fits =
       record {
-        few_domains = accepts.few_domains;
+        leads_up = record { few_domains = accepts.few_domains; lower = record { lower = λ d p q. rw (parent_in tree.domains tree.threads tree.parents tree.thresholds tree.homes d p q) at (accepts.parent_lower d p q) } };
         few_threads = accepts.few_threads;
-        low = record { lower = λ d p q. rw (parent_in n m ps ts hs d p q) at (accepts.parent_lower d p q) };
         real = turn.ready.thread;
         home_real = rw home_is at (accepts.home_real i turn.ready.thread);
       }
@@ -170,88 +168,87 @@ module _ {k n m : ℕ} {ps ts hs : List ℕ} {i : ℕ} {q : PlaceWords} (turn : 
 
     -- what a step counts from any place except Raise and Check
     pub counted :
-        (x : Place) → p ≡ x → (words_of x).row ≢ 13 → (words_of x).row ≢ 6 → (after : PlaceWords) (kind : ℕ) (shown : List Bool) (ts ts' ls ls' : List ℕ) (d : ℕ) →
-        d ≡ started_in n ps (get_or hs i 0) (words_of x) after.row kind → Started d ts ts' ls ls' → CountedStep n ps (get_or hs i 0) q after kind shown ts ts' ls ls'
-    counted x e r c after kind shown ts ts' ls ls' d f s =
-        other_counted n ps (get_or hs i 0) q after kind shown ts ts' ls ls' (λ z. r (sym (row_of x e) ∙ z)) (λ z. c (sym (row_of x e) ∙ z)) d
-        (f ∙ ap (λ y. started_in n ps (get_or hs i 0) y after.row kind) (sym (words x e))) s.added s.raised
+        (x : Place) → p ≡ x → (words_of x).row ≢ 13 → (words_of x).row ≢ 6 → (after : PlaceWords) (kind : ℕ) (shown : List Bool) (old new : Counters) (d : ℕ) →
+        d ≡ started_in tree.domains tree.parents (get_or tree.homes i 0) (words_of x) after.row kind → Started d old new → CountedStep tree.domains tree.parents (get_or tree.homes i 0) q after kind shown old new
+    counted x e r c after kind shown old new d f s =
+        other_counted tree.domains tree.parents (get_or tree.homes i 0) q after kind shown old new (λ z. r (sym (row_of x e) ∙ z)) (λ z. c (sym (row_of x e) ∙ z)) d
+        (f ∙ ap (λ y. started_in tree.domains tree.parents (get_or tree.homes i 0) y after.row kind) (sym (words x e))) s
 
     pub shown_kept : (x : Place) → p ≡ x → (words_of x).row ≢ 13 → (shown : List Bool) → ShownLeft q shown shown
     shown_kept x e r shown = record { raise = λ z. absurd (r (sym (row_of x e) ∙ z)); other = λ n. refl }
 
-    module _ {l : ℕ} (b : l ≡ row_domain (get_or hs i 0) q.row q.domain) where
-      domain_is : l ≡ place_domain (get_or hs i 0) p
-      domain_is = b ∙ rw (words p refl) (place_by_row (get_or hs i 0) p never)
+    module _ {l : ℕ} (b : l ≡ row_domain (get_or tree.homes i 0) q.row q.domain) where
+      domain_is : l ≡ place_domain (get_or tree.homes i 0) p
+      domain_is = b ∙ rw (words p refl) (place_by_row (get_or tree.homes i 0) p never)
 
-      pub real : l < n
+      pub real : l < tree.domains
       unfolding tree_of
       real = rw (domain_is, ← home_is) (domain_real t accepts i turn.ready.thread p (good p refl))
 
       pub small : l < 64
-      small = omega (arith, real, fits.few_domains)
+      small = omega (arith, real, fits.leads_up.few_domains)
 
-      pub at : (x : Place) → p ≡ x → l ≡ place_domain (get_or hs i 0) x
-      at x e = domain_is ∙ ap (place_domain (get_or hs i 0)) e
+      pub at : (x : Place) → p ≡ x → l ≡ place_domain (get_or tree.homes i 0) x
+      at x e = domain_is ∙ ap (place_domain (get_or tree.homes i 0)) e
 
-      module _ {w : Member} (M : MemberOf n ps i (get_or hs i 0) l w) where
+      module _ {w : Member} (M : MemberOf tree.domains tree.parents i (get_or tree.homes i 0) l w) where
         pub stands : Stands t i w
         unfolding own_record child tree_of
         stands =
             record {
               home_is = M.home_is ∙ sym home_is;
-              own_is = rw (M.domain_is, home_is) (own (eqb l (get_or hs i 0)) refl);
+              own_is = rw (M.domain_is, home_is) (own (eqb l (get_or tree.homes i 0)) refl);
               child_is = λ d. rw M.domain_is ((M.above_home (λ e. d (M.domain_is ∙ e ∙ sym M.home_is))).0 ∙ kid);
             }
           where
-            kid : child_from 6 (parents_in n ps) l (get_or hs i 0) ≡ child_from 6 t l (t.home i)
-            kid = child_same 6 (parents_in n ps) t l (get_or hs i 0) (λ x. refl) ∙ ap (child_from 6 t l) (sym home_is)
+            kid : child_from 6 (parents_in tree.domains tree.parents) l (get_or tree.homes i 0) ≡ child_from 6 t l (t.home i)
+            kid = child_same 6 (parents_in tree.domains tree.parents) t l (get_or tree.homes i 0) (λ x. refl) ∙ ap (child_from 6 t l) (sym home_is)
 
-            own : (x : Bool) → eqb l (get_or hs i 0) ≡ x → w.own ≡ cond x i (256 + child_from 6 t l (get_or hs i 0))
-            own true e = M.at_home (eqb-true l (get_or hs i 0) e)
+            own : (x : Bool) → eqb l (get_or tree.homes i 0) ≡ x → w.own ≡ cond x i (256 + child_from 6 t l (get_or tree.homes i 0))
+            own true e = M.at_home (eqb-true l (get_or tree.homes i 0) e)
             own false e =
-                let f = M.above_home (eqb-false l (get_or hs i 0) e) in
-                f.1 ∙ ap (λ v. 256 + v) (f.0 ∙ child_same 6 (parents_in n ps) t l (get_or hs i 0) (λ x. refl))
+                let f = M.above_home (eqb-false l (get_or tree.homes i 0) e) in
+                f.1 ∙ ap (λ v. 256 + v) (f.0 ∙ child_same 6 (parents_in tree.domains tree.parents) t l (get_or tree.homes i 0) (λ x. refl))
 
-        pub above : Above t k w.domain (get_or ps w.domain 0)
+        pub above : Above t tree.ticket_root w.domain (get_or tree.parents w.domain 0)
         unfolding tree_of
         above =
             record {
-              parent_is = λ d. sym (parent_in n m ps ts hs w.domain (omega (arith, d)) (rw M.domain_is real));
+              parent_is = λ d. sym (parent_in tree.domains tree.threads tree.parents tree.thresholds tree.homes w.domain (omega (arith, d)) (rw M.domain_is real));
               root_is = refl;
             }
 
         -- the domain whose record the thread works with
-        pub own_taken : record_domain_in w.own ≡ taken_in n ps (get_or hs i 0) l
-        own_taken = by (eqb l (get_or hs i 0)) refl
+        pub own_taken : record_domain_in w.own ≡ taken_in tree.domains tree.parents (get_or tree.homes i 0) l
+        own_taken = by (eqb l (get_or tree.homes i 0)) refl
           where
-            by : (x : Bool) → eqb l (get_or hs i 0) ≡ x → record_domain_in w.own ≡ cond x 0 (child_from 6 (parents_in n ps) l (get_or hs i 0))
-            by true e = rw (M.at_home (eqb-true l (get_or hs i 0) e)) (rw (lt-ltb i 256 (omega (arith, fits.real, fits.few_threads))))
+            by : (x : Bool) → eqb l (get_or tree.homes i 0) ≡ x → record_domain_in w.own ≡ cond x 0 (child_from 6 (parents_in tree.domains tree.parents) l (get_or tree.homes i 0))
+            by true e = rw (M.at_home (eqb-true l (get_or tree.homes i 0) e)) (rw (lt-ltb i 256 (omega (arith, fits.real, fits.few_threads))))
             by false e =
-                let f = M.above_home (eqb-false l (get_or hs i 0) e) in
+                let f = M.above_home (eqb-false l (get_or tree.homes i 0) e) in
                 ap (λ r. record_domain_in r) f.1 ∙ domain_back w.child ∙ f.0
 
         pub taken :
-            (x : Place) (said : Moved) (ts ts' ns ns' vs vs' : List ℕ) (v v' g g' : ℕ) → p ≡ x →
-            ((qs : PlaceArrays) → numbers_at qs i ≡ q → Done (row_at t i w.domain x (state_in ts ns vs v g qs)) i said (state_in ts' ns' vs' v' g' qs)) →
-            StepDone t i q ts ts' ns ns' vs vs' v v' g g' said
-        taken x said ts ts' ns ns' vs vs' v v' g g' e f =
+            (x : Place) (said : Moved) (old new : State) → p ≡ x → new.places ≡ old.places →
+            (place_at old i ≡ q → Done (row_at t i w.domain x old) i said new) → StepDone t i q said old new
+        taken x said old new e kept f =
             record {
-              does = λ qs here.
-                  let s = state_in ts ns vs v g qs in
+              places_kept = kept;
+              does = λ here.
                   let now : place_of q ≡ x = sym a ∙ e in
                   let there : w.domain ≡ place_domain (t.home i) x = M.domain_is ∙ at x e ∙ ap (λ h. place_domain h x) (sym home_is) in
-                  rw (now, ← row_same t i x s, ← there) (f qs here);
+                  rw (now, ← row_same t i x old, ← there) (f here);
             }
 
         pub inner : (c : ℕ) → p ≡ Check c → w.domain ≢ 0
         inner c e = rw (M.domain_is ∙ at (Check c) e) (check_inner t i c (good (Check c) e))
 
-        pub threshold_is : w.domain ≢ 0 → get_or ts w.domain 0 % 65536 ≡ t.threshold w.domain
+        pub threshold_is : w.domain ≢ 0 → get_or tree.thresholds w.domain 0 % 65536 ≡ t.threshold w.domain
         unfolding tree_of
-        threshold_is d = rw (read_in 1 n ts w.domain (omega (arith, d)) (rw M.domain_is real))
+        threshold_is d = rw (read_in 1 tree.domains tree.thresholds w.domain (omega (arith, d)) (rw M.domain_is real))
 
         -- if the domain of the place is the root, so is the thread's domain
-        pub at_root : (x : Place) → p ≡ x → place_domain (get_or hs i 0) x ≡ 0 → w.domain ≡ 0
+        pub at_root : (x : Place) → p ≡ x → place_domain (get_or tree.homes i 0) x ≡ 0 → w.domain ≡ 0
         at_root x e z = M.domain_is ∙ at x e ∙ z
 
         -- an Idle thread works with its own record

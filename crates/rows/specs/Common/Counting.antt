@@ -1,5 +1,6 @@
 -- What a row counts, given the words that it reads.
 use Rattle.std.specs.Prelude.{◌≡◌, ℕ, ◌+◌, ◌-◌, ◌<◌, ◌≤◌, max, Bool, true, false, cond, not, ◌&&◌, ◌≢◌, List, length, ◌==◌, nat_lt, slice_index, slice_index_or, slice_set}
+use Rattle.model.specs.declared.Counters.{Counters}
 use Rattle.model.specs.declared.PlaceWords.{PlaceWords}
 use Rattle.model.specs.Counters.{each_with_index}
 use Rattle.model.specs.Trees.{read_word, child_from}
@@ -36,9 +37,9 @@ pub data Climbed (parent : ℕ → ℕ) : (from : ℕ) → (before after : List 
   one_up : (c : ℕ) (vs ws : List ℕ) → c ≢ 0 → Climbed parent (parent c) (slice_set vs c (slice_index vs c + 1)) ws → Climbed parent c vs ws
 
 -- one more tenure of a domain, of length 1; none for domain 0
-pub record Started (domain : ℕ) (tenures tenures_left longest longest_left : List ℕ) : Type 0 where
-  pub added : tenures_left ≡ added_at tenures domain
-  pub raised : longest_left ≡ raised_at longest domain 1
+pub record Started (domain : ℕ) (old new : Counters) : Type 0 where
+  pub added : new.tenures ≡ added_at old.tenures domain
+  pub raised : new.longest ≡ raised_at old.longest domain 1
 
 -- an entry counts in the domains from the home up; any other step counts nothing
 pub record Entered (parent : ℕ → ℕ) (kind home : ℕ) (before after : List ℕ) : Type 0 where
@@ -58,9 +59,9 @@ abbrev pub is_shown : (shown : List Bool) → (below domain : ℕ) → Bool
 is_shown bs n d = not (d == 0) && (nat_lt d n && slice_index_or bs d false)
 
 -- one more tenure for each such domain, with its longest tenure at least 1; nothing else changes
-pub record CountedShown (shown : List Bool) (below : ℕ) (tenures tenures_left longest longest_left : List ℕ) : Type 0 where
-  pub added : tenures_left ≡ each_with_index (λ d v. v + cond (is_shown shown below d) 1 0) 0 tenures
-  pub raised : longest_left ≡ each_with_index (λ d v. max v (cond (is_shown shown below d) 1 0)) 0 longest
+pub record CountedShown (shown : List Bool) (below : ℕ) (old new : Counters) : Type 0 where
+  pub added : new.tenures ≡ each_with_index (λ d v. v + cond (is_shown shown below d) 1 0) 0 old.tenures
+  pub raised : new.longest ≡ each_with_index (λ d v. max v (cond (is_shown shown below d) 1 0)) 0 old.longest
 
 -- no domain is marked
 pub record Clear (shown : List Bool) : Type 0 where

@@ -1,5 +1,5 @@
--- A row of the step table, given by the arrays that it writes, and what it reports about its step.
-use Rattle.std.specs.Prelude.{◌≡◌, ℕ, not, ◌≢◌, List, ◌==◌}
+-- A row of the step table: the words that it leaves, and what it reports about its step.
+use Rattle.std.specs.Prelude.{◌≡◌, ℕ, not, ◌≢◌, ◌==◌}
 use Rattle.model.specs.declared.PlaceWords.{PlaceWords}
 use Rattle.model.specs.declared.State.{State}
 use Rattle.model.specs.Trees.{Tree, child, own_record}
@@ -11,18 +11,6 @@ use Rattle.rows.specs.declared.common.rows.Moved.{Moved}
 -- what a row reports: the kind of its step and the thread's place after it
 abbrev pub moved : (kind : ℕ) → PlaceWords → Moved
 moved k q = record { kind = k; place = q }
-
--- the state with other tails
-abbrev pub with_tails : List ℕ → State → State
-with_tails ts s = record { tails = ts; nexts = s.nexts; statuses = s.statuses; places = s.places; ticket = s.ticket; grant = s.grant }
-
--- the state with other nexts
-abbrev pub with_nexts : List ℕ → State → State
-with_nexts ns s = record { tails = s.tails; nexts = ns; statuses = s.statuses; places = s.places; ticket = s.ticket; grant = s.grant }
-
--- the state with other statuses
-abbrev pub with_statuses : List ℕ → State → State
-with_statuses vs s = record { tails = s.tails; nexts = s.nexts; statuses = vs; places = s.places; ticket = s.ticket; grant = s.grant }
 
 -- the state with other numbers for a thread's place
 abbrev pub with_place_words : (thread : ℕ) → PlaceWords → State → State
@@ -37,9 +25,10 @@ pub record Done (x : RowResult) (i : ℕ) (m : Moved) (left : State) : Type 0 wh
   pub kind_is : m.kind ≡ kind_number x.kind
   pub state_left : with_place_words i m.place left ≡ x.state
 
--- in every tree and state in which the row's inputs are what it reads, the words after it are those before it changed as in the row
-pub record RowDone (Given : Tree → (thread : ℕ) → State → Type 0) (row : Tree → (thread : ℕ) → State → RowResult) (m : Moved) (before after : State → State) : Type 0 where
-  pub does : (t : Tree) (i : ℕ) (s : State) → Given t i s → Done (row t i (before s)) i m (after s)
+-- no place is written, and in every tree in which the row's inputs are what it reads, the row is done
+pub record RowDone (Given : Tree → (thread : ℕ) → State → Type 0) (row : Tree → (thread : ℕ) → State → RowResult) (m : Moved) (old new : State) : Type 0 where
+  pub places_kept : new.places ≡ old.places
+  pub does : (t : Tree) (i : ℕ) → Given t i old → Done (row t i old) i m new
 
 -- thread i is this member of the domain. At its home the child is not read
 pub record Stands (t : Tree) (i : ℕ) (w : Member) : Type 0 where

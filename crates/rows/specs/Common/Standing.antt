@@ -1,14 +1,20 @@
 -- Where a thread is: the domain of its place, its record there, and the places before and after.
-use Rattle.std.specs.Prelude.{◌≡◌, ℕ, ◌+◌, ◌<◌, Bool, cond, ◌||◌, ◌≢◌, List, ◌==◌}
+use Rattle.std.specs.Prelude.{◌≡◌, ℕ, ◌+◌, ◌<◌, ◌≤◌, Bool, cond, ◌||◌, ◌≢◌, List, ◌==◌}
 use Rattle.model.specs.declared.Place.{Place}
+use Rattle.model.specs.declared.TreeWords.{TreeWords}
 use Rattle.model.specs.declared.Place.TheVariants.{Idle, Help, Prep, Check, Draw, Raise}
 use Rattle.model.specs.Trees.{child_from}
-use Rattle.refusals.specs.Arrays.{parents_in}
+use Rattle.refusals.specs.Arrays.{parents_in, Lower}
 use Rattle.rows.specs.declared.common.Member.{Member}
 
 -- the number is that of an entry kind
 abbrev pub is_entry_number : (kind : ℕ) → Bool
 is_entry_number k = k == 2 || k == 3 || k == 4
+
+-- every path of the tree leads up to the root: its domains fit in the arrays, and each parent is lower than its domain
+pub record LeadsUp (tree : TreeWords) : Type 0 where
+  pub few_domains : tree.domains ≤ 64
+  pub lower : Lower tree.domains tree.parents
 
 -- the indices at which a row stores are within the arrays
 pub record Within (w : Member) : Type 0 where

@@ -1,16 +1,12 @@
 -- What a row of the release reads.
 use Rattle.std.specs.Prelude.{◌≡◌, ℕ, ◌%◌, ◌≢◌}
-use Rattle.model.specs.declared.State.{State}
-use Rattle.model.specs.States.{next, status}
 use Rattle.model.specs.Trees.{Tree}
 use Rattle.rows.specs.declared.common.Member.{Member}
 use Rattle.rows.specs.Common.Rows.{Stands, Above}
 
--- what Check reads; Check is never at the root
-pub record CheckReads (t : Tree) (i : ℕ) (s : State) (w : Member) (kind parent threshold n v : ℕ) : Type 0 where
+-- what Check reads of the tree; Check is never at the root
+pub record CheckReads (t : Tree) (i : ℕ) (w : Member) (kind parent threshold : ℕ) : Type 0 where
   pub stands : Stands t i w
   pub inner : w.domain ≢ 0
   pub above : Above t kind w.domain parent
   pub threshold_is : threshold % 65536 ≡ t.threshold w.domain
-  pub next_is : n ≡ next s w.own
-  pub status_is : v ≡ status s w.own

@@ -1,5 +1,6 @@
 -- What a step counts, given the words that it reads. proofs/ of `lock` shows that it is what the model counts.
 use Rattle.std.specs.Prelude.{◌≡◌, ℕ, Bool, cond, ◌≢◌, List, ◌==◌}
+use Rattle.model.specs.declared.Counters.{Counters}
 use Rattle.model.specs.declared.PlaceWords.{PlaceWords}
 use Rattle.rows.specs.Common.Counting.{taken_in, record_domain_in, added_at, raised_at, CountedShown, Clear}
 
@@ -12,12 +13,12 @@ started_in m ps h q a k =
     0))
 
 -- the tenures that a step counts: a raise counts those whose ticket it shows, a Check that will grant reports the word as a length, and any other step counts the one that it starts
-pub record CountedStep (domains : ℕ) (parents : List ℕ) (home : ℕ) (before after : PlaceWords) (kind : ℕ) (shown : List Bool) (tenures tenures_left longest longest_left : List ℕ) : Type 0 where
-  pub raise : before.row ≡ 13 → CountedShown shown 64 tenures tenures_left longest longest_left
-  pub check : before.row ≡ 6 → (tenures_left ≡ tenures) × (longest_left ≡ raised_at longest (cond (after.row == 10) before.domain 0) after.word)
+pub record CountedStep (domains : ℕ) (parents : List ℕ) (home : ℕ) (before after : PlaceWords) (kind : ℕ) (shown : List Bool) (old new : Counters) : Type 0 where
+  pub raise : before.row ≡ 13 → CountedShown shown 64 old new
+  pub check : before.row ≡ 6 → (new.tenures ≡ old.tenures) × (new.longest ≡ raised_at old.longest (cond (after.row == 10) before.domain 0) after.word)
   pub other :
       before.row ≢ 13 → before.row ≢ 6 →
-      (tenures_left ≡ added_at tenures (started_in domains parents home before after.row kind)) × (longest_left ≡ raised_at longest (started_in domains parents home before after.row kind) 1)
+      (new.tenures ≡ added_at old.tenures (started_in domains parents home before after.row kind)) × (new.longest ≡ raised_at old.longest (started_in domains parents home before after.row kind) 1)
 
 -- the marks after a step: none after a raise, unchanged after any other step
 pub record ShownLeft (before : PlaceWords) (shown left : List Bool) : Type 0 where

@@ -2,13 +2,12 @@
 use Rattle.std.proofs.Common.{refl, eq-eqb, ne_eqb}
 use Rattle.model.specs.Steps.{draw_row}
 use Rattle.rows.proofs.acquire.Acquiring.{root_own}
-use Rattle.rows.proofs.common.Counts.{entered, not_entered}
 use Rattle.rows.proofs.acquire.draw.Goals as goal
 
-pub returns-then-v-granted : goal.returns-then-v-granted
+pub returns-then-v-words-clause-row_done : goal.returns-then-v-words-clause-row_done
 unfolding draw_row
-returns-then-v-granted c = record { row_done = record { does = λ t i s S. rw (c.moves.ensures, root_own t i _ S.0 c.requires.home_lt_domains.1.1, ← S.1, ne_eqb _ _ c.if-v-granted.true, c.next_number.ensures) (record { kind_is = refl; state_left = refl }) }; entered = rw c.moves.ensures (not_entered _ 1 _ _ refl); started = rw c.moves.ensures (record { added = refl; raised = refl }) }
+returns-then-v-words-clause-row_done c = record { places_kept = refl; does = λ t i S. rw (c.moves.ensures, root_own t i _ S c.requires.home_lt_domains.1.1, ne_eqb _ _ c.if-v-words.true, c.next_number-words.ensures, c.from.ensures) (record { kind_is = refl; state_left = refl }) }
 
-pub returns : goal.returns
+pub returns-clause-row_done : goal.returns-clause-row_done
 unfolding draw_row
-returns c = record { row_done = record { does = λ t i s S. rw (c.moves-2.ensures, root_own t i _ S.0 c.requires.home_lt_domains.1.1, ← S.1, eq-eqb _ _ c.if-v-granted.false, c.next_number.ensures) (record { kind_is = refl; state_left = refl }) }; entered = rw c.moves-2.ensures (entered _ 2 _ _ _ refl c.count_entry.ensures); started = rw c.moves-2.ensures c.count_given.ensures }
+returns-clause-row_done c = record { places_kept = refl; does = λ t i S. rw (c.moves-2.ensures, root_own t i _ S c.requires.home_lt_domains.1.1, eq-eqb _ _ c.if-v-words.false, c.next_number-words.ensures, c.from.ensures) (record { kind_is = refl; state_left = refl }) }

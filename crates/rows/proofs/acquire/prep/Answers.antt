@@ -15,5 +15,5 @@ chosen t i l s = by (eqb l 0)
     by true = refl
     by false = refl
 
-pub returns : goal.returns
-returns c = record { row_done = record { does = λ t i s S. rw (chosen t i _ _, c.moves.ensures, c.root_word_at.ensures, ← S.own_is) (record { kind_is = refl; state_left = refl }) }; kind_value = rw c.moves.ensures refl }
+pub returns-clause-row_done : goal.returns-clause-row_done
+returns-clause-row_done c = record { places_kept = refl; does = λ t i S. rw (chosen t i _ _, c.moves.ensures, c.root_word_at.ensures, ← S.own_is) (record { kind_is = refl; state_left = refl }) }

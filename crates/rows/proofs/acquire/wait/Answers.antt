@@ -3,29 +3,28 @@ use Rattle.std.proofs.Common.{refl, eq-eqb, ne_eqb}
 use Rattle.model.specs.Steps.{wait_row}
 use Rattle.rows.proofs.common.Staying.{unmoved}
 use Rattle.rows.proofs.acquire.Acquiring.{acquire_is}
-use Rattle.rows.proofs.common.Counts.{entered, not_entered}
 use Rattle.rows.proofs.acquire.wait.Goals as goal
 
-pub returns-then-v-eq-LOCKED : goal.returns-then-v-eq-LOCKED
+pub returns-then-v-eq-LOCKED-clause-row_done : goal.returns-then-v-eq-LOCKED-clause-row_done
 unfolding wait_row
-returns-then-v-eq-LOCKED c = record { row_done = record { does = λ t i s S. rw (c.at_place.ensures, ← S.0.own_is, eq-eqb _ _ c.if-l-eq0.true, eq-eqb _ _ c.if-v-eq-LOCKED.true) (record { kind_is = refl; state_left = unmoved _ i _ S.1.1 }) }; entered = rw c.at_place.ensures (not_entered _ 0 _ _ refl) }
+returns-then-v-eq-LOCKED-clause-row_done c = record { places_kept = refl; does = λ t i S. rw (c.at_place.ensures, ← S.0.own_is, eq-eqb _ _ c.if-l-eq0.true, eq-eqb _ _ c.if-v-eq-LOCKED.true) (record { kind_is = refl; state_left = unmoved _ i _ S.1.1 }) }
 
-pub returns-then-l-eq0 : goal.returns-then-l-eq0
+pub returns-then-l-eq0-clause-row_done : goal.returns-then-l-eq0-clause-row_done
 unfolding wait_row
-returns-then-l-eq0 c = record { row_done = record { does = λ t i s S. rw (c.moves.ensures, ← S.0.own_is, eq-eqb _ _ c.if-l-eq0.true, ne_eqb _ _ c.if-v-eq-LOCKED.false) (record { kind_is = refl; state_left = refl }) }; entered = rw c.moves.ensures (entered _ 2 _ _ _ refl c.count_entry.ensures) }
+returns-then-l-eq0-clause-row_done c = record { places_kept = refl; does = λ t i S. rw (c.moves.ensures, ← S.0.own_is, eq-eqb _ _ c.if-l-eq0.true, ne_eqb _ _ c.if-v-eq-LOCKED.false) (record { kind_is = refl; state_left = refl }) }
 
-pub returns-then-v : goal.returns-then-v
+pub returns-then-v-clause-row_done : goal.returns-then-v-clause-row_done
 unfolding wait_row
-returns-then-v c = record { row_done = record { does = λ t i s S. rw (c.at_place-then-v.ensures, ← S.0.own_is, ne_eqb _ _ c.if-l-eq0.false, eq-eqb _ _ c.if-v.true) (record { kind_is = refl; state_left = unmoved _ i _ S.1.1 }) }; entered = rw c.at_place-then-v.ensures (not_entered _ 0 _ _ refl) }
+returns-then-v-clause-row_done c = record { places_kept = refl; does = λ t i S. rw (c.at_place-then-v.ensures, ← S.0.own_is, ne_eqb _ _ c.if-l-eq0.false, eq-eqb _ _ c.if-v.true) (record { kind_is = refl; state_left = unmoved _ i _ S.1.1 }) }
 
-pub returns-then-v-2 : goal.returns-then-v-2
+pub returns-then-v-2-clause-row_done : goal.returns-then-v-2-clause-row_done
 unfolding wait_row
-returns-then-v-2 c = record { row_done = record { does = λ t i s S. rw (c.moves-then-v-2.ensures, c.acquire_place_at.ensures, acquire_is t _ S.1.0.root_is _, ← S.0.own_is, ne_eqb _ _ c.if-l-eq0.false, ne_eqb _ _ c.if-v.false, eq-eqb _ _ c.if-v-2.true, ← S.1.0.parent_is c.if-l-eq0.false) (record { kind_is = refl; state_left = refl }) }; entered = rw c.moves-then-v-2.ensures (not_entered _ 1 _ _ refl) }
+returns-then-v-2-clause-row_done c = record { places_kept = refl; does = λ t i S. rw (c.moves-then-v-2.ensures, c.acquire_place_at-next.ensures, acquire_is t _ S.1.0.root_is _, ← S.0.own_is, ne_eqb _ _ c.if-l-eq0.false, ne_eqb _ _ c.if-v.false, eq-eqb _ _ c.if-v-2.true, ← S.1.0.parent_is c.if-l-eq0.false) (record { kind_is = refl; state_left = refl }) }
 
-pub returns-then-l-w : goal.returns-then-l-w
+pub returns-then-l-w-clause-row_done : goal.returns-then-l-w-clause-row_done
 unfolding wait_row
-returns-then-l-w c = record { row_done = record { does = λ t i s S. rw (c.moves-then-l-w.ensures, ← S.0.own_is, ← S.0.home_is, ne_eqb _ _ c.if-l-eq0.false, ne_eqb _ _ c.if-v.false, ne_eqb _ _ c.if-v-2.false, eq-eqb _ _ c.if-l-w.true) (record { kind_is = refl; state_left = refl }) }; entered = rw c.moves-then-l-w.ensures (entered _ 3 _ _ _ refl c.count_entry-2.ensures) }
+returns-then-l-w-clause-row_done c = record { places_kept = refl; does = λ t i S. rw (c.moves-then-l-w.ensures, ← S.0.own_is, ← S.0.home_is, ne_eqb _ _ c.if-l-eq0.false, ne_eqb _ _ c.if-v.false, ne_eqb _ _ c.if-v-2.false, eq-eqb _ _ c.if-l-w.true) (record { kind_is = refl; state_left = refl }) }
 
-pub returns : goal.returns
+pub returns-clause-row_done : goal.returns-clause-row_done
 unfolding wait_row
-returns c = record { row_done = record { does = λ t i s S. rw (c.moves-2.ensures, ← S.0.own_is, ← S.0.home_is, ne_eqb _ _ c.if-l-eq0.false, ne_eqb _ _ c.if-v.false, ne_eqb _ _ c.if-v-2.false, ne_eqb _ _ c.if-l-w.false) (record { kind_is = refl; state_left = refl }) }; entered = rw c.moves-2.ensures (entered _ 4 _ _ _ refl c.count_entry-2.ensures) }
+returns-clause-row_done c = record { places_kept = refl; does = λ t i S. rw (c.moves-2.ensures, ← S.0.own_is, ← S.0.home_is, ne_eqb _ _ c.if-l-eq0.false, ne_eqb _ _ c.if-v.false, ne_eqb _ _ c.if-v-2.false, ne_eqb _ _ c.if-l-w.false) (record { kind_is = refl; state_left = refl }) }

@@ -4,8 +4,5 @@ use Rattle.model.specs.declared.Found.{Found}
 use Rattle.model.proofs.Laws.Search.{same_child_from}
 use Rattle.rows.proofs.common.member_at.Goals as goal
 
-pub returns-then-l-home : goal.returns-then-l-home
-returns-then-l-home c = record { home_is = refl; domain_is = refl; within = record { domain_fits = omega arith; own_fits = omega arith }; at_home = λ e. refl; above_home = λ n. absurd (n c.if-l-home.true) }
-
 pub returns : goal.returns
-returns c = record { home_is = refl; domain_is = refl; within = record { domain_fits = omega arith; own_fits = omega (arith, c.search_at-found.ensures.child_bound) }; at_home = λ e. absurd (c.if-l-home.false e); above_home = λ n. (ap (λ (r : Found). r.child) c.search_at-found.ensures.value ∙ same_child_from 6 _ _ _ 0, refl) }
+returns c = record { home_is = refl; domain_is = refl; within = record { domain_fits = omega arith; own_fits = omega (arith, c.search_at-found.ensures.child_bound) }; at_home = λ e. absurd (c.if-l-home.false e); above_home = λ n. (ap (λ (r : Found). r.child) c.search_at-found.ensures.value ∙ same_child_from 6 _ _ _ 0, rw c.from.ensures refl) }

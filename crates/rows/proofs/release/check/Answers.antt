@@ -1,17 +1,31 @@
 -- `rows::release::check` meets its contract: it does Check, and reports the length of a tenure that continues.
-use Rattle.std.proofs.Common.{refl, mod-eq_of_lt, le-ltb, lt-ltb, eq-eqb, ne_eqb}
+use Rattle.std.proofs.Common.{◌<◌, get_or, refl, mod-eq_of_lt, le-ltb, lt-ltb, eq-eqb, ne_eqb, rules}
 use Rattle.model.specs.Steps.{check_row}
-use Rattle.rows.proofs.release.Leaving.{release_is, release_no_grant}
+use Rattle.model.proofs.Tests.{and_false}
+use Rattle.rows.proofs.release.Leaving.{release_is}
+use Rattle.rows.proofs.release.check.Goals.{then-h-v-via-then-h-v, then-h-v-via-else-h-v+then-n-eq0}
 use Rattle.rows.proofs.release.check.Goals as goal
 
-pub returns-then-h-v : goal.returns-then-h-v
+pub returns-then-h-v-clause-row_done : goal.returns-then-h-v-clause-row_done
 unfolding check_row
-returns-then-h-v c = record { row_done = record { does = λ t i s S. rw (c.moves.ensures, c.release_place_at.ensures, release_is t _ S.above.root_is _, ← S.stands.own_is, ← S.status_is, ← S.threshold_is, mod-eq_of_lt c.ranges.threshold.fits, le-ltb _ _ c.if-h-v.true, ← S.above.parent_is S.inner) (record { kind_is = refl; state_left = refl }) }; kind_value = rw c.moves.ensures refl; longest_after = rw (c.moves.ensures, c.release_place_at.ensures, release_no_grant _ _) }
+returns-then-h-v-clause-row_done c =
+    let fits : get_or c.args.tree.now.thresholds c.args.w.domain 0 < 65536 = search rules in
+    record {
+      places_kept = refl;
+      does = λ t i S.
+          elim c.then-h-v.branch [
+            | then-h-v-via-then-h-v w ↦
+                rw (c.moves.ensures, c.release_place_at-next.ensures, release_is t _ S.above.root_is _, ← S.stands.own_is, ← S.threshold_is, mod-eq_of_lt fits, ← c.from-h.ensures, le-ltb _ _ w.if-h-v.true, ← S.above.parent_is S.inner) (record { kind_is = refl; state_left = refl })
+            | then-h-v-via-else-h-v+then-n-eq0 w ↦
+                rw (c.moves.ensures, c.release_place_at-next.ensures, release_is t _ S.above.root_is _, ← S.stands.own_is, eq-eqb _ _ w.if-n-eq0.true, and_false _, ← S.above.parent_is S.inner) (record { kind_is = refl; state_left = refl })
+          ];
+    }
 
-pub returns-then-n-eq0 : goal.returns-then-n-eq0
+pub returns-clause-row_done : goal.returns-clause-row_done
 unfolding check_row
-returns-then-n-eq0 c = record { row_done = record { does = λ t i s S. rw (c.moves-then-n-eq0.ensures, c.release_place_at-then-n-eq0.ensures, release_is t _ S.above.root_is _, ← S.stands.own_is, ← S.status_is, ← S.next_is, ← S.threshold_is, mod-eq_of_lt c.ranges.threshold.fits, lt-ltb _ _ c.if-h-v.false, eq-eqb _ _ c.if-n-eq0.true, ← S.above.parent_is S.inner) (record { kind_is = refl; state_left = refl }) }; kind_value = rw c.moves-then-n-eq0.ensures refl; longest_after = rw (c.moves-then-n-eq0.ensures, c.release_place_at-then-n-eq0.ensures, release_no_grant _ _) }
-
-pub returns : goal.returns
-unfolding check_row
-returns c = record { row_done = record { does = λ t i s S. rw (c.moves-2.ensures, ← S.stands.own_is, ← S.status_is, ← S.next_is, ← S.threshold_is, mod-eq_of_lt c.ranges.threshold.fits, lt-ltb _ _ c.if-h-v.false, ne_eqb _ _ c.if-n-eq0.false) (record { kind_is = refl; state_left = refl }) }; kind_value = rw c.moves-2.ensures refl; longest_after = rw c.moves-2.ensures c.count_length.ensures }
+returns-clause-row_done c =
+    let fits : get_or c.args.tree.now.thresholds c.args.w.domain 0 < 65536 = search rules in
+    record {
+      places_kept = refl;
+      does = λ t i S. rw (c.moves-2.ensures, ← S.stands.own_is, ← S.threshold_is, mod-eq_of_lt fits, ← c.from-h.ensures, lt-ltb _ _ c.if-h-v.false, ne_eqb _ _ c.if-n-eq0.false) (record { kind_is = refl; state_left = refl });
+    }

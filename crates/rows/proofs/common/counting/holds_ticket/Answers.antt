@@ -1,35 +1,24 @@
--- `rows::common::counting::holds_ticket` meets its contract: no record of the domains so far has the ticket.
-use Rattle.std.proofs.Common.{sym, arith, rules}
-use mathlib.Core.Bool.{false≢true}
-use Rattle.rows.proofs.common.Shown.{one_more_differs}
+-- `rows::common::counting::holds_ticket` meets its contract: no record of the domains has the ticket if `any` finds none.
+use Rattle.std.proofs.Common.{◌≡◌, ℕ, ◌+◌, ◌-◌, ◌<◌, ◌≤◌, ◌≢◌, Bool, true, false, List, length, get_or, take, drop, MatchBool, sym, ◌∙◌, arith, rules, tests}
+use Rattle.std.specs.List.{HoldsAt, AllWithin}
+use Rattle.std.proofs.lemmas.Iterator.{cases_from_any, YieldsList-from_slice}
+use Rattle.std.proofs.lemmas.Bool.{false≢true}
+use Rattle.std.proofs.lemmas.List.{get_or-take, get_or-drop, length-take-le, length-drop}
 use Rattle.rows.proofs.common.counting.holds_ticket.Goals as goal
 
-pub loop-d-init : goal.loop-d-init
-loop-d-init c = (search rules, λ j l. absurd (omega arith))
+-- no element is the ticket if the answer is false
+none_equal : (r : Bool) (v : ℕ) (xs : List ℕ) → MatchBool r ((k : ℕ) × (k < length xs) × HoldsAt (λ x. x ≡ v) xs k) (AllWithin (λ x. x ≢ v) xs 0 (length xs)) → r ≡ false → (k : ℕ) → k < length xs → get_or xs k 0 ≢ v
+none_equal true v xs h e k l = absurd (false≢true (sym e))
+none_equal false v xs h e k l = h k 0 (omega arith) l
 
-pub overflow_cast-at : goal.overflow_cast-at
-overflow_cast-at c = omega (arith, c.requires, c.loop-d-test.true)
-
-pub overflow_add-at : goal.overflow_add-at
-overflow_add-at c = omega (arith, c.requires, c.loop-d-test.true)
-
-pub offset_bounds-statuses-at : goal.offset_bounds-statuses-at
-offset_bounds-statuses-at c = omega (arith, c.requires, c.loop-d-test.true)
-
-pub bounds-statuses-at : goal.bounds-statuses-at
-bounds-statuses-at c = omega (arith, c.requires, c.loop-d-test.true)
-
-pub returns-then-statuses-at : goal.returns-then-statuses-at
-returns-then-statuses-at c = record { none_holds = λ e. absurd (false≢true (sym e)) }
-
-pub overflow_add-d : goal.overflow_add-d
-overflow_add-d c = omega (arith, c.requires, c.loop-d-test.true)
-
-pub loop-d-smaller : goal.loop-d-smaller
-loop-d-smaller c = omega (arith, c.loop-d-test.true)
-
-pub loop-d-preserved : goal.loop-d-preserved
-loop-d-preserved c = (omega (arith, c.loop-d-test.true), one_more_differs c.args.statuses.now _ c.loop-d.d c.loop-d.invariant.1 c.if-statuses-at.false)
+-- the elements of a part are those of the whole
+part_differs : (vs : List ℕ) (m v d : ℕ) → 256 + m ≤ length vs → d < m → (d < length (take m (drop 256 vs)) → get_or (take m (drop 256 vs)) d 0 ≢ v) → get_or vs (256 + d) 0 ≢ v
+part_differs vs m v d n l h e =
+    let long : m ≤ length (drop 256 vs) = omega (arith, length-drop 256 vs) in
+    h (omega (arith, length-take-le m (drop 256 vs) long)) (get_or-take m (drop 256 vs) d 0 l ∙ get_or-drop 256 vs d 0 ∙ e)
 
 pub returns : goal.returns
-returns c = record { none_holds = λ e j h. c.loop-d.invariant.1 j (omega (arith, c.loop-d-test.false)) }
+returns c =
+    let a = c.args in
+    let found = cases_from_any _ _ _ (λ x. x ≡ a.v) (λ x. x ≢ a.v) c.any.ensures.ran (YieldsList-from_slice _ c.iter.ensures.rest) (λ x q k. search (rules, tests)) (λ x q k. search (rules, tests)) in
+    record { none_holds = λ e d h. part_differs a.statuses.now (256 + a.domains - 256) a.v d (omega (arith, c.requires, c.told-statuses)) (omega arith) (none_equal _ a.v _ found e d) }
