@@ -23,30 +23,27 @@ pub struct TakenStep {
     pub domain: u32,
 }
 
-// The number at which the counters of a ticket lock start: the given one at a ticket root that is not refused, else 0.
-fn first_of(number: u32, ticket_root: u32, start: u16) -> u16
-    ensures { result ≡ first_number number ticket_root start }
+// The number at which the counters of a ticket lock start: the given one at a ticket root, else 0.
+fn first_of(ticket_root: u32, start: u16) -> u16
+    ensures { result ≡ first_number 0 ticket_root start }
 {
-    if number != 0 || ticket_root == 0 {
-        return 0;
-    }
-    start
+    if ticket_root == 0 { 0 } else { start }
 }
 
 // A fresh lock: a fresh state, whether accepted or refused.
 pub fn fresh_lock(tree: &TreeWords, start: u16) -> FreshReply
     ensures { result ≡ fresh_answer tree.now start }
 {
-    let (number, place) = match refusals::tree_refusal_of(tree) {
-        Ok(()) => (0, 0),
-        Err(refusal) => (refusal.number(), refusal.place),
-    };
-    FreshReply {
-        number,
-        place,
-        state: LockState {
-            words: steps::fresh_state(first_of(number, tree.ticket_root, start)),
-            counters: steps::fresh_counters(),
+    match refusals::tree_refusal_of(tree) {
+        Ok(()) => FreshReply {
+            number: 0,
+            place: 0,
+            state: steps::fresh(first_of(tree.ticket_root, start)),
+        },
+        Err(refusal) => FreshReply {
+            number: refusal.number(),
+            place: refusal.place,
+            state: steps::fresh(0),
         },
     }
 }

@@ -1,6 +1,6 @@
 // The steps of a run: its loop, and 19. The calls on a lock use it and have made the tests that it requires.
 ghost use Rattle.std.specs.Prelude.{◌≡◌};
-ghost use Rattle.model.specs.Counters.{fresh_counters};
+ghost use Rattle.model.specs.Counters.{lock_state, fresh_counters};
 ghost use Rattle.model.specs.Refusals.{refusal};
 ghost use Rattle.model.specs.Answers.{run_refused, no_counts};
 ghost use Rattle.refusals.specs.Reasons.{number_of};
@@ -39,6 +39,16 @@ pub fn fresh_counters() -> Counters
         entries: [0; 64],
         tenures: [0; 64],
         longest: [0; 64],
+    }
+}
+
+// A fresh lock whose ticket counters start at this number.
+pub fn fresh(first: u16) -> LockState
+    ensures { result ≡ lock_state (fresh_from first) fresh_counters }
+{
+    LockState {
+        words: fresh_state(first),
+        counters: fresh_counters(),
     }
 }
 

@@ -21,7 +21,7 @@ use Rattle.model.specs.Runs.{steps, state_after, counts_of, Run, run_of, run}
 use Rattle.model.specs.Counters.{lock_state, counters_after}
 use Rattle.model.specs.Refusals as model
 use Rattle.model.specs.Refusals.{refusal, accepted, Test, first_refusal, entry_tests, room_tests, tree_tests, counter_tests, has_number, bad_length, bad_entry, bad_room, step_tests_before_19, step_tests, run_tests_before_19, run_tests, step_refusal, run_refusal}
-use Rattle.model.specs.Answers.{counters_after_run, first_kind, first_domain, step_reply, step_answer, run_reply, run_buffer, run_answer, trace_answer}
+use Rattle.model.specs.Answers.{counters_after_run, first_kind, first_domain, step_reply, step_answer, run_refused, run_reply, run_buffer, run_answer, trace_answer}
 use Rattle.model.proofs.Laws.Runs.{steps_length}
 use Rattle.model.specs.Laws.{Numbered}
 use Rattle.model.proofs.Refusing.{numbered}
@@ -37,7 +37,8 @@ use Rattle.lock.proofs.steps.SoFar.{counts_kinds, thread_at, below}
 use Rattle.lock.proofs.steps.StepCodes.{code_kind, domain_of_code}
 use Rattle.rows.specs.Common.Standing.{row_domain}
 use Rattle.lock.specs.declared.TakenStep.{TakenStep}
-use Rattle.lock.specs.Lent.{taken_first}
+use Rattle.lock.specs.declared.lent.Ran.{Ran}
+use Rattle.lock.specs.Lent.{taken_first, ran_by}
 use Rattle.lock.specs.Steps.Running.{kinds_of, counts_by, trace_front, step_code, codes_front}
 
 -- a run that is not refused passes the tests before 19
@@ -183,7 +184,10 @@ module _ (w : TreeWords) (s : LockState) (is b : List ℕ) where
     pub passed_state : (left : LockState) → left.words ≡ (run (tree_of w) is s.words).state → left.counters ≡ counters_after (tree_of w) s.counters (steps (tree_of w) is s.words) →
         left ≡ (run_answer w s is b).state
     unfolding run_answer run_reply counters_after_run
-    passed_state left g f = let p = eq-eqb (run_refusal (tree_of w) s is (length b)).number 0 z in (rw (g, f)) ∙ rw p
+    passed_state left g f =
+        let p = eq-eqb (run_refusal (tree_of w) s is (length b)).number 0 z in
+        let each : record { words = left.words; counters = left.counters } ≡ (run_answer w s is b).state = rw (g, f, p) in
+        each
 
     pub passed_trace : (b' : List ℕ) → b' ≡ trace_front b (run (tree_of w) is s.words) → b' ≡ trace_answer w s is b
     unfolding trace_answer run_buffer
@@ -193,3 +197,20 @@ module _ (w : TreeWords) (s : LockState) (is b : List ℕ) where
 pub counts_run : (w : TreeWords) (s : LockState) (is : List ℕ) (kinds : List ℕ) (counts : Counts) → kinds ≡ kinds_of (steps (tree_of w) is s.words) → counts ≡ counts_by kinds → counts ≡ (run (tree_of w) is s.words).counts
 unfolding run run_of
 counts_run w s is kinds counts k f = rw (f, k) (counts_kinds (steps (tree_of w) is s.words))
+
+-- the parts of a run's reply
+module _ (w : TreeWords) (s : LockState) (is b : List ℕ) where
+  module _ (z : (run_refusal (tree_of w) s is (length b)).number ≡ 0) where
+    pub passed_counts : (q : Ran) → q ≡ ran_by (tree_of w) s.words is → q.counts ≡ (run_answer w s is b).counts
+    unfolding run_answer run_reply
+    passed_counts q e = ap (λ (r : Ran). r.counts) e ∙ rw (eq-eqb (run_refusal (tree_of w) s is (length b)).number 0 z)
+
+    pub run_accepts : (counts : Counts) (left : LockState) → counts ≡ (run_answer w s is b).counts → left ≡ (run_answer w s is b).state →
+        record { number = 0; place = 0; counts = counts; state = left } ≡ run_answer w s is b
+    unfolding run_answer run_reply
+    run_accepts counts left c f = let p = eq-eqb (run_refusal (tree_of w) s is (length b)).number 0 z in rw (c, f, p)
+
+  pub run_refuses : (x : Refusal) → refusal (number_of x.reason) x.place ≡ run_refusal (tree_of w) s is (length b) → (left : LockState) → left ≡ (run_answer w s is b).state →
+      run_refused (refusal (number_of x.reason) x.place) left ≡ run_answer w s is b
+  unfolding run_answer run_reply
+  run_refuses x e left f = let p = ne_eqb (run_refusal (tree_of w) s is (length b)).number 0 (error_numbered x e) in rw (f, e, p)

@@ -65,6 +65,18 @@ looked_real {row = row} {m = m} {l = l} e h =
       | no z ↦ absurd (omega (arith, e.other z))
     ]
 
+-- at most the tree's threads are looked at
+pub looked_few : {row : ℕ} {vs : List ℕ} {n v m l : ℕ} → Looked row vs n v m l → l ≤ m
+looked_few {row = row} {m = m} {l = l} e =
+    elim (ℕ_discrete l 0) [
+      | yes z ↦ omega arith
+      | no z ↦
+          elim (ℕ_discrete row 13) [
+            | yes y ↦ let x : l ≡ m = e.all y z in omega arith
+            | no y ↦ absurd (z (e.other y))
+          ]
+    ]
+
 -- a raise looks at all threads, or at none if no domain's record has the ticket
 looked_cases :
     {row : ℕ} {vs : List ℕ} {n v m l : ℕ} (C : Type 0) → Looked row vs n v m l → row ≡ 13 → (l ≡ m → C) → (l ≡ 0 → ((d : ℕ) → d < n → get_or vs (256 + d) 0 ≢ v) → C) → C

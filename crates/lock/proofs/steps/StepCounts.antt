@@ -37,7 +37,7 @@ use Rattle.model.proofs.Laws.Form.{not_invalid}
 use Rattle.model.proofs.Laws.Given.{given_from, given_at, gives}
 use Rattle.model.proofs.Trees.Reading.{home_read}
 use Rattle.refusals.specs.Arrays.{parents_in}
-use Rattle.refusals.specs.OfRuns.Counts.{counters_in}
+use Rattle.model.specs.declared.Counters.{Counters}
 use Rattle.rows.specs.declared.common.rows.Moved.{Moved}
 use Rattle.rows.specs.Common.Rows.{Done}
 use Rattle.rows.specs.Common.Counting.{parent_in, taken_in, record_domain_in, raised_at, is_watch_in, Entered}
@@ -141,9 +141,15 @@ module _ (w : TreeWords) (ok : (tree_refusal (tree_of w)).number ≡ 0) (i : ℕ
   unfolding step
   after = ap (λ (n : State). numbers_at n.places i) (sym D.state_left) ∙ ap (λ (ps : PlaceArrays). numbers_at (store_numbers ps i said.place) i) same ∙ numbers_stored s.places i said.place room
 
-  module _ (h : ℕ) (home : h ≡ t.home i) (shown : List Bool) (ts ts' ls ls' : List ℕ) (C : CountedStep w.domains w.parents h q said.place said.kind shown ts ts' ls ls') where
+  module _ (h : ℕ) (home : h ≡ t.home i) (shown : List Bool) (c₁ c₂ : Counters) (C : CountedStep w.domains w.parents h q said.place said.kind shown c₁ c₂) where
+    abbrev ts : List ℕ
+    ts = c₁.tenures
+
+    abbrev ls : List ℕ
+    ls = c₁.longest
+
     abbrev Both : Type 0
-    Both = (ts' ≡ each_with_index (λ d v. v + domain_tenures t d (step t i s ∷ [])) 0 ts) × (ls' ≡ each_with_index (λ d v. max v (longest_tenure t d (step t i s ∷ []))) 0 ls)
+    Both = (c₂.tenures ≡ each_with_index (λ d v. v + domain_tenures t d (step t i s ∷ [])) 0 ts) × (c₂.longest ≡ each_with_index (λ d v. max v (longest_tenure t d (step t i s ∷ []))) 0 ls)
 
     abbrev started : ℕ
     started = started_in w.domains w.parents h q said.place.row said.kind
@@ -215,7 +221,7 @@ module _ (w : TreeWords) (ok : (tree_refusal (tree_of w)).number ≡ 0) (i : ℕ
         let y = row_is Raise z in
         let g = C.raise (ap (λ (v : PlaceWords). v.row) y) in
         let given : given_from t i (place s i) s ≡ shown_members t s (wrap (s.grant + 1)) = ap (λ (p : Place). given_from t i p s) z ∙ gives t i Raise s in
-        (raise_added t i s z shown given m ts ts' ls ls' g, raise_raised t i s z shown given m ts ts' ls ls' g)
+        (raise_added t i s z shown given m c₁ c₂ g, raise_raised t i s z shown given m c₁ c₂ g)
 
     by_place : (p : Place) → place s i ≡ p → good_place t i p ≡ true → (place s i ≡ Raise → (d : ℕ) → d < 64 → d ≢ 0 → get_or shown d false ≡ eqb (status s (256 + d)) (wrap (s.grant + 1)) && is_watched t s (256 + d)) → Both
     unfolding started_in checks_at good_place given_at
@@ -251,11 +257,13 @@ module _ (w : TreeWords) (ok : (tree_refusal (tree_of w)).number ≡ 0) (i : ℕ
     tenures_counted k = by_place (place s i) refl good (λ z. marks (k z))
 
     pub step_counted :
-        (es es' : List ℕ) → Entered (parent_in w.domains w.parents) said.kind h es es' →
+        Entered (parent_in w.domains w.parents) said.kind h c₁.entries c₂.entries →
         (place s i ≡ Raise → Marked w.domains w.parents w.homes s.statuses s.places (wrap (s.grant + 1)) w.threads shown) →
-        counters_in es' ts' ls' ≡ counters_after t (counters_in es ts ls) (step t i s ∷ [])
+        c₂ ≡ counters_after t c₁ (step t i s ∷ [])
     unfolding counters_after tree_of step
-    step_counted es es' g k =
+    step_counted g k =
         let both = tenures_counted k in
-        let g' : Entered t.parent said.kind (t.home i) es es' = rw home at g in
-        rw (both.0, both.1, entries_counted t valid i b s said.kind es es' D.kind_is g')
+        let g' : Entered t.parent said.kind (t.home i) c₁.entries c₂.entries = rw home at g in
+        let each : record { entries = c₂.entries; tenures = c₂.tenures; longest = c₂.longest } ≡ counters_after t c₁ (step t i s ∷ []) =
+        rw (both.0, both.1, entries_counted t valid i b s said.kind c₁.entries c₂.entries D.kind_is g') in
+        each

@@ -24,6 +24,7 @@ use Rattle.model.proofs.Tests.{by_test}
 use Rattle.model.proofs.Places.{by_row, no_place}
 use Rattle.model.proofs.Counted.{indexed_same, indexed_kept, filter_occurs}
 use Rattle.model.proofs.Laws.Given.{given_from}
+use Rattle.model.specs.declared.Counters.{Counters}
 use Rattle.rows.specs.Common.Counting.{added_at, raised_at, is_shown, CountedShown}
 use Rattle.rows.proofs.common.Counts.{is_at, added_indexed, raised_indexed}
 
@@ -150,10 +151,10 @@ module _ (t : Tree) (i : ℕ) (s : State) (here : place s i ≡ Raise) (shown : 
       by true = refl
       by false = refl
 
-  pub raise_added : (ts ts' ls ls' : List ℕ) → CountedShown shown 64 ts ts' ls ls' → ts' ≡ each_with_index (λ d v. v + domain_tenures t d (step t i s ∷ [])) 0 ts
+  pub raise_added : (c c' : Counters) → CountedShown shown 64 c c' → c'.tenures ≡ each_with_index (λ d v. v + domain_tenures t d (step t i s ∷ [])) 0 c.tenures
   unfolding domain_tenures
-  raise_added ts ts' ls ls' g = g.added ∙ indexed_same _ _ 0 ts (λ d v. omega (arith, raise_starts d))
+  raise_added c c' g = g.added ∙ indexed_same _ _ 0 c.tenures (λ d v. omega (arith, raise_starts d))
 
-  pub raise_raised : (ts ts' ls ls' : List ℕ) → CountedShown shown 64 ts ts' ls ls' → ls' ≡ each_with_index (λ d v. max v (longest_tenure t d (step t i s ∷ []))) 0 ls
+  pub raise_raised : (c c' : Counters) → CountedShown shown 64 c c' → c'.longest ≡ each_with_index (λ d v. max v (longest_tenure t d (step t i s ∷ []))) 0 c.longest
   unfolding longest_tenure
-  raise_raised ts ts' ls ls' g = g.raised ∙ indexed_same _ _ 0 ls (λ d v. omega (arith, raise_length d))
+  raise_raised c c' g = g.raised ∙ indexed_same _ _ 0 c.longest (λ d v. omega (arith, raise_length d))

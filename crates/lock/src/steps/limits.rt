@@ -1,7 +1,7 @@
 // 19: a step would raise a counter of a domain above 2^63.
-ghost use Rattle.std.specs.Prelude.{◌≡◌, length};
+ghost use Rattle.std.specs.Prelude.{◌≡◌, ◌<◌, length, IfSome};
 ghost use Rattle.model.specs.Trees.{tree_of};
-ghost use Rattle.model.specs.Counters.{any_above};
+ghost use Rattle.model.specs.Counters.{count_above, any_above};
 ghost use Rattle.model.specs.Refusals.{first_refusal, run_tests_before_19, bad_counter, counter_tests, run_refusal};
 ghost use Rattle.refusals.specs.Lowest.{Lowest, or_end};
 ghost use Rattle.refusals.specs.Reasons.{refusal_of};
@@ -27,12 +27,21 @@ fn has_room(counters: &Counters) -> bool
     all <= MOST_WITH_ROOM
 }
 
+// Whether a counter of a domain is above 2^63.
+#[tactic(auto, unfolding(model::specs::Counters::count_above))]
+fn is_above_at(counters: &Counters, d: usize) -> bool
+    requires { d < 64 }
+    ensures { result ≡ count_above counters.now d }
+{
+    MOST < counters.entries[d] || MOST < counters.tenures[d] || MOST < counters.longest[d]
+}
+
 // Whether some counter is above 2^63.
 fn is_above(counters: &Counters) -> bool
     ensures { result ≡ any_above counters.now }
 {
     for d in 0..64 {
-        if MOST < counters.entries[d] || MOST < counters.tenures[d] || MOST < counters.longest[d] {
+        if is_above_at(counters, d) {
             return true;
         }
     }
@@ -42,8 +51,10 @@ fn is_above(counters: &Counters) -> bool
 // The lowest position of a schedule after whose step a counter is above 2^63, found by taking the steps one by one on a copy.
 fn lowest_above(tree: &TreeWords, state: &LockState, schedule: &[u16]) -> Option<u32>
     requires { (first_refusal (run_tests_before_19 (tree_of tree.now) state.now schedule.now (length schedule.now))).number ≡ 0 }
-    ensures { Lowest (length schedule.now) (bad_counter (tree_of tree.now) state.now schedule.now) (or_end result (length schedule.now)) }
+    ensures found { IfSome result (λ k. k < length schedule.now) }
+    ensures lowest { Lowest (length schedule.now) (bad_counter (tree_of tree.now) state.now schedule.now) (or_end result (length schedule.now)) }
 {
+    run::fits_its_type(*state);
     let mut tried = *state;
     for (k, thread) in schedule.iter().enumerate() {
         let one = [*thread];

@@ -88,14 +88,10 @@ fn put_code(codes: &mut [u16], at: usize, kind: u8, row: u8, domain: u8)
 pub fn domain_of_code(home: u8, code: u16) -> u32
     ensures { result ≡ row_domain home ((code / 8) % 16) (code / 128) }
 {
-    let row = (code / 8) % 16;
-    if row == 0 {
-        return u32::from(home);
+    match (code / 8) % 16 {
+        0 | 5 => u32::from(home),
+        _ => u32::from(code / 128),
     }
-    if row == 5 {
-        return u32::from(home);
-    }
-    u32::from(code / 128)
 }
 
 // Stores the place after a step unless the step is a stay.
@@ -122,7 +118,7 @@ fn mark_watching(tree: &TreeWords, words: &State, threads: u32, shown: &mut [boo
     for other in 0..threads {
         let at = other as usize;
         let place = places::place_at(&words.places, at);
-        counting::mark_shown(tree, tree.homes[at], &words.statuses, place, words.grant, shown);
+        counting::mark_shown(tree, tree.homes[at], place, words, shown);
     }
 }
 
@@ -158,7 +154,7 @@ pub fn run_lent(
         let i = *thread;
         let at = i as usize;
         let before = places::place_at(&state.words.places, at);
-        let looked = counting::looked_at(before.row, &state.words.statuses, tree.domains, state.words.grant, tree.threads);
+        let looked = counting::looked_at(tree, before.row, &state.words);
         mark_watching(tree, &state.words, looked, &mut shown);
         let m = rows::step::take(tree, i, before, looked, &mut state.words, &mut shown, &mut state.counters);
         count_in(kinds, m.kind);

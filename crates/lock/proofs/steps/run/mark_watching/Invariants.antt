@@ -1,4 +1,5 @@
 -- `lock::steps::run::mark_watching` meets its contract: the threads so far have marked their domains.
+use Prim.Native.Nat.{◌+◌}
 use Rattle.model.specs.States.{wrap}
 use Rattle.lock.specs.Steps.Counting.{Marked}
 use Rattle.lock.proofs.steps.run.mark_watching.Given as goal
