@@ -5,21 +5,23 @@ ghost use Rattle.rows.specs.Common.Counting.{parent_in, RoomAbove, record_domain
 ghost use Rattle.rows.specs.Common.Standing.{is_entry_number, LeadsUp, Within};
 ghost use Rattle.rows.specs.Common.Rows.{RowDone, Stands, place_at, Above, RootIs};
 ghost use Rattle.rows.specs.Acquire.Rows.{start_row};
+ghost use Rattle.rows.specs.Kinds.{number_of_kind};
 
 use crate::common::rows::Moved;
 use crate::common::{Member, counting, places, rows};
+use crate::kinds::Kind;
 use model::{Counters, Place, PlaceWords, State, TreeWords};
 
 pub fn prep(w: Member, words: &mut State) -> Moved
     requires { Within w }
     ensures row_done { RowDone (λ t i s. Stands t i w) (λ t i s. prep_row t i w.domain s) result words.old words.new }
-    ensures kind_value { is_entry_number result.kind ≡ false }
+    ensures kind_value { is_entry_number (number_of_kind result.kind) ≡ false }
 {
     let l = w.domain;
     let r = w.own as usize;
     words.nexts[r] = 0;
     words.statuses[r] = rows::root_word_at(l, model::LOCKED, model::WAIT);
-    rows::moves(model::OTHER_MOVE, Place::Swap(l))
+    rows::moves(Kind::OtherMove, Place::Swap(l))
 }
 
 pub fn swap(tree: &TreeWords, w: Member, words: &mut State, counters: &mut Counters) -> Moved
@@ -27,36 +29,37 @@ pub fn swap(tree: &TreeWords, w: Member, words: &mut State, counters: &mut Count
     requires home_lt_domains { (w.home < tree.now.domains) × Within w }
     requires room_above { RoomAbove counters.old.entries × RoomAbove counters.old.tenures }
     ensures row_done { RowDone (λ t i s. Stands t i w × Above t tree.now.ticket_root w.domain (slice_index tree.now.parents w.domain)) (λ t i s. swap_row t i w.domain s) result words.old words.new }
-    ensures entered { Entered (parent_in tree.now.domains tree.now.parents) result.kind w.home counters.old.entries counters.new.entries }
+    ensures entered { Entered (parent_in tree.now.domains tree.now.parents) (number_of_kind result.kind) w.home counters.old.entries counters.new.entries }
     ensures started { Started (if nat_eq result.place.row 3 then 0 else record_domain_in w.own) counters.old counters.new }
 {
     let l = w.domain;
+    let own = w.own;
     let d = l as usize;
-    let r = w.own as usize;
+    let r = own as usize;
     let old = words.tails[d];
-    words.tails[d] = w.own + 1;
+    words.tails[d] = own + 1;
     if old != 0 {
-        return rows::moves(model::OTHER_MOVE, Place::Link(l, old - 1));
+        return rows::moves(Kind::OtherMove, Place::Link(l, old - 1));
     }
-    counting::count_given(w.own, counters);
+    counting::count_given(own, counters);
     if l == 0 {
         words.statuses[r] = model::UNLOCKED;
         counting::count_entry(tree, w.home, &mut counters.entries);
-        return rows::moves(model::ROOT_ENTRY, Place::Inside);
+        return rows::moves(Kind::RootEntry, Place::Inside);
     }
     words.statuses[r] = model::COHORT_START;
     let next = places::acquire_place_at(tree.ticket_root, tree.parents[d]);
-    rows::moves(model::OTHER_MOVE, next)
+    rows::moves(Kind::OtherMove, next)
 }
 
 pub fn link(w: Member, before: u16, words: &mut State) -> Moved
     requires within { Within w }
     requires before_bound { before < 320 }
     ensures row_done { RowDone (λ t i s. Stands t i w) (λ t i s. link_row t i w.domain before s) result words.old words.new }
-    ensures kind_value { is_entry_number result.kind ≡ false }
+    ensures kind_value { is_entry_number (number_of_kind result.kind) ≡ false }
 {
     words.nexts[before as usize] = w.own + 1;
-    rows::moves(model::OTHER_MOVE, Place::Wait(w.domain))
+    rows::moves(Kind::OtherMove, Place::Wait(w.domain))
 }
 
 pub fn wait(
@@ -70,31 +73,31 @@ pub fn wait(
     requires home_lt_domains { (w.home < tree.now.domains) × Within w }
     requires room_above { RoomAbove entries.old }
     ensures row_done { RowDone (λ t i s. Stands t i w × (Above t tree.now.ticket_root w.domain (slice_index tree.now.parents w.domain) × place ≡ place_at s i)) (λ t i s. wait_row t i w.domain s) result words.old words.new }
-    ensures entered { Entered (parent_in tree.now.domains tree.now.parents) result.kind w.home entries.old entries.new }
+    ensures entered { Entered (parent_in tree.now.domains tree.now.parents) (number_of_kind result.kind) w.home entries.old entries.new }
 {
     let l = w.domain;
     let r = w.own as usize;
     let v = words.statuses[r];
     if l == 0 {
         if v == model::LOCKED {
-            return rows::at_place(model::STAY, place);
+            return rows::at_place(Kind::Stay, place);
         }
         counting::count_entry(tree, w.home, entries);
-        return rows::moves(model::ROOT_ENTRY, Place::Inside);
+        return rows::moves(Kind::RootEntry, Place::Inside);
     }
     if v == model::WAIT {
-        return rows::at_place(model::STAY, place);
+        return rows::at_place(Kind::Stay, place);
     }
     if v == model::ACQUIRE_PARENT {
         words.statuses[r] = model::COHORT_START;
         let next = places::acquire_place_at(tree.ticket_root, tree.parents[l as usize]);
-        return rows::moves(model::OTHER_MOVE, next);
+        return rows::moves(Kind::OtherMove, next);
     }
     counting::count_entry(tree, w.home, entries);
     if l == w.home {
-        return rows::moves(model::PASSED_ENTRY, Place::Inside);
+        return rows::moves(Kind::PassedEntry, Place::Inside);
     }
-    rows::moves(model::CROSSED_ENTRY, Place::Inside)
+    rows::moves(Kind::CrossedEntry, Place::Inside)
 }
 
 // The thread draws the root's ticket: it goes Inside if the grant shows it, else it watches.
@@ -103,18 +106,18 @@ pub fn draw(tree: &TreeWords, w: Member, words: &mut State, counters: &mut Count
     requires home_lt_domains { (w.home < tree.now.domains) × (Within w × (w.domain ≡ 0)) }
     requires room_above { RoomAbove counters.old.entries × RoomAbove counters.old.tenures }
     ensures row_done { RowDone (λ t i s. Stands t i w) draw_row result words.old words.new }
-    ensures entered { Entered (parent_in tree.now.domains tree.now.parents) result.kind w.home counters.old.entries counters.new.entries }
-    ensures started { Started (if nat_eq result.kind 1 then 0 else record_domain_in w.own) counters.old counters.new }
+    ensures entered { Entered (parent_in tree.now.domains tree.now.parents) (number_of_kind result.kind) w.home counters.old.entries counters.new.entries }
+    ensures started { Started (if nat_eq (number_of_kind result.kind) 1 then 0 else record_domain_in w.own) counters.old counters.new }
 {
     let v = words.ticket;
     words.ticket = counting::next_number(v);
     words.statuses[w.own as usize] = u64::from(v);
     if v != words.grant {
-        return rows::moves(model::OTHER_MOVE, Place::Watch);
+        return rows::moves(Kind::OtherMove, Place::Watch);
     }
     counting::count_given(w.own, counters);
     counting::count_entry(tree, w.home, &mut counters.entries);
-    rows::moves(model::ROOT_ENTRY, Place::Inside)
+    rows::moves(Kind::RootEntry, Place::Inside)
 }
 
 pub fn watch(
@@ -128,14 +131,14 @@ pub fn watch(
     requires home_lt_domains { (w.home < tree.now.domains) × (Within w × (w.domain ≡ 0)) }
     requires room_above { RoomAbove entries.old }
     ensures row_done { RowDone (λ t i s. Stands t i w × place ≡ place_at s i) watch_row result words.now words.now }
-    ensures entered { Entered (parent_in tree.now.domains tree.now.parents) result.kind w.home entries.old entries.new }
+    ensures entered { Entered (parent_in tree.now.domains tree.now.parents) (number_of_kind result.kind) w.home entries.old entries.new }
 {
     let v = words.statuses[w.own as usize];
     if v != u64::from(words.grant) {
-        return rows::at_place(model::STAY, place);
+        return rows::at_place(Kind::Stay, place);
     }
     counting::count_entry(tree, w.home, entries);
-    rows::moves(model::ROOT_ENTRY, Place::Inside)
+    rows::moves(Kind::RootEntry, Place::Inside)
 }
 
 // A thread at home draws if its home is a ticket root, else it does Prep. No tenure starts: the record is the thread's own.
@@ -144,7 +147,7 @@ pub fn start(tree: &TreeWords, w: Member, words: &mut State, counters: &mut Coun
     requires home_lt_domains { (w.home < tree.now.domains) × (Within w × (w.own < 256)) }
     requires room_above { RoomAbove counters.old.entries × RoomAbove counters.old.tenures }
     ensures row_done { RowDone (λ t i s. Stands t i w × RootIs t tree.now.ticket_root) (λ t i s. start_row t i w.domain s) result words.old words.new }
-    ensures entered { Entered (parent_in tree.now.domains tree.now.parents) result.kind w.home counters.old.entries counters.new.entries }
+    ensures entered { Entered (parent_in tree.now.domains tree.now.parents) (number_of_kind result.kind) w.home counters.old.entries counters.new.entries }
     ensures started { Started 0 counters.old counters.new }
 {
     if w.domain != 0 || tree.ticket_root == 0 {

@@ -3,5 +3,6 @@
 
 pub mod acquire;
 pub mod common;
+pub mod kinds;
 pub mod release;
 pub mod step;

@@ -6,23 +6,25 @@ ghost use Rattle.rows.specs.Common.Counting.{RoomAbove, record_domain_in, raised
 ghost use Rattle.rows.specs.Common.Standing.{is_entry_number, Within};
 ghost use Rattle.rows.specs.Common.Rows.{RowDone, Stands, place_at, RootIs};
 ghost use Rattle.rows.specs.Release.Rows.{CheckReads};
+ghost use Rattle.rows.specs.Kinds.{number_of_kind};
 
 use crate::common::rows::Moved;
 use crate::common::{Member, counting, places, rows};
+use crate::kinds::Kind;
 use model::{Counters, Place, PlaceWords, State, TreeWords};
 
 pub fn leave(ticket_root: u32, home: u8) -> Moved
     ensures row_done { (s : State) → RowDone (λ t i s. (home ≡ t.home i) × RootIs t ticket_root) leave_row result s s }
-    ensures kind_value { is_entry_number result.kind ≡ false }
+    ensures kind_value { is_entry_number (number_of_kind result.kind) ≡ false }
 {
-    rows::moves(model::LEAVING, places::release_place_at(ticket_root, home))
+    rows::moves(Kind::Leaving, places::release_place_at(ticket_root, home))
 }
 
 // Never at the root. A Check that will grant reports the word as the length of the domain's tenure.
 pub fn check(tree: &TreeWords, w: Member, words: &State, longest: &mut [u64; 64]) -> Moved
     requires { Within w }
     ensures row_done { RowDone (λ t i s. CheckReads t i w tree.now.ticket_root (slice_index tree.now.parents w.domain) (slice_index tree.now.thresholds w.domain)) (λ t i s. check_row t i w.domain s) result words.now words.now }
-    ensures kind_value { is_entry_number result.kind ≡ false }
+    ensures kind_value { is_entry_number (number_of_kind result.kind) ≡ false }
     ensures longest_after { longest.new ≡ raised_at longest.old (if nat_eq result.place.row 10 then w.domain else 0) result.place.word }
 {
     let l = w.domain;
@@ -33,66 +35,66 @@ pub fn check(tree: &TreeWords, w: Member, words: &State, longest: &mut [u64; 64]
     let h = u64::from(tree.thresholds[d]);
     if h <= v || n == 0 {
         let next = places::release_place_at(tree.ticket_root, tree.parents[d]);
-        return rows::moves(model::OTHER_MOVE, next);
+        return rows::moves(Kind::OtherMove, next);
     }
     counting::count_length(longest, l, v + 1);
-    rows::moves(model::OTHER_MOVE, Place::Grant(l, n - 1, v + 1))
+    rows::moves(Kind::OtherMove, Place::Grant(l, n - 1, v + 1))
 }
 
 pub fn help(w: Member, words: &State) -> Moved
     requires { Within w }
     ensures row_done { RowDone (λ t i s. Stands t i w) (λ t i s. help_row t i w.domain s) result words.now words.now }
-    ensures kind_value { is_entry_number result.kind ≡ false }
+    ensures kind_value { is_entry_number (number_of_kind result.kind) ≡ false }
 {
     let l = w.domain;
     let n = words.nexts[w.own as usize];
     if n == 0 {
-        return rows::moves(model::OTHER_MOVE, Place::Cas(l));
+        return rows::moves(Kind::OtherMove, Place::Cas(l));
     }
     let v = rows::root_word_at(l, model::UNLOCKED, model::ACQUIRE_PARENT);
-    rows::moves(model::OTHER_MOVE, Place::Grant(l, n - 1, v))
+    rows::moves(Kind::OtherMove, Place::Grant(l, n - 1, v))
 }
 
 pub fn cas(w: Member, words: &mut State) -> Moved
     requires { Within w }
     ensures row_done { RowDone (λ t i s. Stands t i w) (λ t i s. cas_row t i w.domain s) result words.old words.new }
-    ensures kind_value { is_entry_number result.kind ≡ false }
+    ensures kind_value { is_entry_number (number_of_kind result.kind) ≡ false }
 {
     let l = w.domain;
     let d = l as usize;
     if words.tails[d] != w.own + 1 {
-        return rows::moves(model::OTHER_MOVE, Place::Linger(l));
+        return rows::moves(Kind::OtherMove, Place::Linger(l));
     }
     words.tails[d] = 0;
-    rows::moves(model::OTHER_MOVE, places::done_place_at(w.home, l, w.child))
+    rows::moves(Kind::OtherMove, places::done_place_at(w.home, l, w.child))
 }
 
 pub fn linger(w: Member, place: PlaceWords, words: &State) -> Moved
     requires { Within w }
     ensures row_done { RowDone (λ t i s. Stands t i w × place ≡ place_at s i) (λ t i s. linger_row t i w.domain s) result words.now words.now }
-    ensures kind_value { is_entry_number result.kind ≡ false }
+    ensures kind_value { is_entry_number (number_of_kind result.kind) ≡ false }
 {
     let l = w.domain;
     let n = words.nexts[w.own as usize];
     if n == 0 {
-        return rows::at_place(model::STAY, place);
+        return rows::at_place(Kind::Stay, place);
     }
     let v = rows::root_word_at(l, model::UNLOCKED, model::ACQUIRE_PARENT);
-    rows::moves(model::OTHER_MOVE, Place::Grant(l, n - 1, v))
+    rows::moves(Kind::OtherMove, Place::Grant(l, n - 1, v))
 }
 
 pub fn grant(w: Member, to: u16, word: u64, words: &mut State, counters: &mut Counters) -> Moved
     requires to_bound { to < 320 }
     requires room_above { RoomAbove counters.old.tenures }
     ensures row_done { RowDone (λ t i s. Stands t i w) (λ t i s. grant_row t i w.domain to word s) result words.old words.new }
-    ensures kind_value { is_entry_number result.kind ≡ false }
+    ensures kind_value { is_entry_number (number_of_kind result.kind) ≡ false }
     ensures started { Started (record_domain_in to) counters.old counters.new }
     ensures entries_kept { counters.new.entries ≡ counters.old.entries }
 {
     words.statuses[to as usize] = word;
     counting::count_given(to, counters);
     rows::moves(
-        model::OTHER_MOVE,
+        Kind::OtherMove,
         places::done_place_at(w.home, w.domain, w.child),
     )
 }
@@ -100,11 +102,11 @@ pub fn grant(w: Member, to: u16, word: u64, words: &mut State, counters: &mut Co
 pub fn raise(w: Member, words: &mut State) -> Moved
     requires { w.domain ≡ 0 }
     ensures row_done { RowDone (λ t i s. Stands t i w) raise_row result words.old words.new }
-    ensures kind_value { is_entry_number result.kind ≡ false }
+    ensures kind_value { is_entry_number (number_of_kind result.kind) ≡ false }
 {
     words.grant = counting::next_number(words.grant);
     rows::moves(
-        model::OTHER_MOVE,
+        Kind::OtherMove,
         places::done_place_at(w.home, w.domain, w.child),
     )
 }

@@ -4,9 +4,11 @@ ghost use Rattle.model.specs.Trees.{tree_of};
 ghost use Rattle.rows.specs.Common.Counting.{parent_in, RoomAbove, Entered, ShownFor};
 ghost use Rattle.rows.specs.Step.Counting.{CountedStep, ShownLeft};
 ghost use Rattle.rows.specs.Step.OneStep.{Ready, StepDone};
+ghost use Rattle.rows.specs.Kinds.{number_of_kind};
 
 use crate::common::rows::Moved;
 use crate::common::{counting, places, rows};
+use crate::kinds::Kind;
 use crate::{acquire, release};
 use model::{Counters, Place, PlaceWords, State, TreeWords};
 
@@ -24,8 +26,8 @@ pub fn take(
     requires room_above { RoomAbove counters.old.entries × RoomAbove counters.old.tenures }
     requires shown_for { ShownFor looked tree.now.domains shown.old }
     ensures fact { StepDone (tree_of tree.now) i place result words.old words.new }
-    ensures entered { Entered (parent_in tree.now.domains tree.now.parents) result.kind (slice_index tree.now.homes i) counters.old.entries counters.new.entries }
-    ensures counted_step { CountedStep tree.now.domains tree.now.parents (slice_index tree.now.homes i) place result.place result.kind shown.old counters.old counters.new }
+    ensures entered { Entered (parent_in tree.now.domains tree.now.parents) (number_of_kind result.kind) (slice_index tree.now.homes i) counters.old.entries counters.new.entries }
+    ensures counted_step { CountedStep tree.now.domains tree.now.parents (slice_index tree.now.homes i) place result.place (number_of_kind result.kind) shown.old counters.old counters.new }
     ensures shown_left { ShownLeft place shown.old shown.new }
 {
     let home = tree.homes[i as usize];
@@ -50,6 +52,6 @@ pub fn take(
             counting::count_shown(looked, tree.domains, shown, counters);
             release::raise(w, words)
         }
-        Place::Invalid => rows::at_place(model::STAY, place),
+        Place::Invalid => rows::at_place(Kind::Stay, place),
     }
 }

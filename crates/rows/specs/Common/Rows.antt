@@ -7,9 +7,11 @@ use Rattle.model.specs.Steps.{kind_number, RowResult}
 use Rattle.model.specs.States.{numbers_at, store_numbers}
 use Rattle.rows.specs.declared.common.Member.{Member}
 use Rattle.rows.specs.declared.common.rows.Moved.{Moved}
+use Rattle.rows.specs.declared.kinds.Kind.{Kind}
+use Rattle.rows.specs.Kinds.{number_of_kind}
 
 -- what a row reports: the kind of its step and the thread's place after it
-abbrev pub moved : (kind : ℕ) → PlaceWords → Moved
+abbrev pub moved : Kind → PlaceWords → Moved
 moved k q = record { kind = k; place = q }
 
 -- the state with other numbers for a thread's place
@@ -22,7 +24,7 @@ place_at s i = numbers_at s.places i
 
 -- a row is done: it reports its kind, and the words that it leaves, with the reported place of the thread, are its state
 pub record Done (x : RowResult) (i : ℕ) (m : Moved) (left : State) : Type 0 where
-  pub kind_is : m.kind ≡ kind_number x.kind
+  pub kind_is : number_of_kind m.kind ≡ kind_number x.kind
   pub state_left : with_place_words i m.place left ≡ x.state
 
 -- no place is written, and in every tree in which the row's inputs are what it reads, the row is done

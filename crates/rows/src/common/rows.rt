@@ -5,23 +5,24 @@ ghost use Rattle.model.specs.Places.{words_of};
 ghost use Rattle.rows.specs.Common.Rows.{moved};
 
 use crate::common::places;
+use crate::kinds::Kind;
 use model::{Place, PlaceWords};
 
 // What a row reports about its step: its kind, and the thread's place after it.
 #[derive(Clone, Copy)]
 pub struct Moved {
-    pub kind: u8,
+    pub kind: Kind,
     pub place: PlaceWords,
 }
 
-pub fn at_place(kind: u8, place: PlaceWords) -> Moved
+pub fn at_place(kind: Kind, place: PlaceWords) -> Moved
     ensures { result ≡ moved kind place }
 {
     Moved { kind, place }
 }
 
 // A row that leads to a place.
-pub fn moves(kind: u8, p: Place) -> Moved
+pub fn moves(kind: Kind, p: Place) -> Moved
     ensures { result ≡ moved kind (words_of p) }
 {
     at_place(kind, places::words_at(p))

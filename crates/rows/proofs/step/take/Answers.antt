@@ -4,6 +4,7 @@ use Rattle.model.specs.declared.PlaceWords.{PlaceWords}
 use Rattle.model.specs.declared.Place.TheVariants.{Idle, Prep, Swap, Link, Wait, Inside, Check, Help, Cas, Linger, Grant, Draw, Watch, Raise}
 use Rattle.rows.specs.Common.Counting.{taken_in}
 use Rattle.rows.specs.Step.Counting.{started_in}
+use Rattle.rows.specs.Kinds.{number_of_kind}
 use Rattle.rows.proofs.common.Counts.{not_entered}
 use Rattle.rows.proofs.step.StepCounted.{raise_counted, check_counted}
 use Rattle.rows.proofs.step.StepTaken.{turn_of, fits, home_is, words, not_invalid, never, link_fits, grant_fits, counted, shown_kept, row_of, real, at, stands, above, own_taken, taken, inner, threshold_is, at_root, own_small}
@@ -180,7 +181,7 @@ returns-in-Draw c = let M = c.member_at-w.ensures in let b = c.domain_by_row-l.e
     record {
       fact = taken r a b M Draw _ _ _ same done.places_kept (λ here. done.does _ _ (stands r a b M));
       entered = rw M.home_is at c.draw.ensures.entered;
-      counted_step = counted r a Draw same (λ z. absurd (omega arith)) (λ z. absurd (omega arith)) _ _ _ _ _ _ (ap (cond (eqb c.draw.result.kind 1) 0) (own_taken r a b M ∙ ap (taken_in _ _ _) (at r a b Draw same))) c.draw.ensures.started;
+      counted_step = counted r a Draw same (λ z. absurd (omega arith)) (λ z. absurd (omega arith)) _ _ _ _ _ _ (ap (cond (eqb (number_of_kind c.draw.result.kind) 1) 0) (own_taken r a b M ∙ ap (taken_in _ _ _) (at r a b Draw same))) c.draw.ensures.started;
       shown_left = shown_kept r a Draw same (λ z. absurd (omega arith)) _;
     }
 
