@@ -1,7 +1,6 @@
 -- The place that a row of the acquire leaves: where acquiring a domain starts.
 use Rattle.std.proofs.Common.{◌≡◌, ℕ, Bool, true, false, cond, not, ◌&&◌, eqb, sym, refl, ap, ◌∙◌}
 use Rattle.model.specs.declared.Place.TheVariants.{Prep, Draw}
-use Rattle.model.specs.Places.{words_of}
 use Rattle.model.specs.Trees.{Tree, is_ticket, own_record}
 use Rattle.model.specs.Steps.{acquire_place}
 use Rattle.rows.specs.declared.common.Member.{Member}
@@ -18,15 +17,6 @@ acquire_is t k r d = by (eqb k 0) (eqb d 0) ∙ ap (λ b. cond (b && eqb d 0) Dr
     by true false = refl
     by false true = refl
     by false false = refl
-
--- the place where acquiring a domain starts is no Link
-pub acquire_no_link : (k d : ℕ) → eqb (words_of (acquire_at k d)).row 3 ≡ false
-acquire_no_link k d = by (eqb d 0) (eqb k 0)
-  where
-    by : (a b : Bool) → eqb (words_of (cond a (cond b (Prep d) Draw) (Prep d))).row 3 ≡ false
-    by true true = refl
-    by true false = refl
-    by false b = refl
 
 -- the record with which a thread works at the root
 pub root_own : (t : Tree) (i : ℕ) (w : Member) → Stands t i w → w.domain ≡ 0 → own_record t i 0 ≡ w.own

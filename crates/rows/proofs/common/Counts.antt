@@ -8,22 +8,9 @@ use Rattle.model.proofs.Counted.{indexed_same, indexed_kept, indexed_twice}
 use Rattle.model.proofs.Tests.{and_false}
 use Rattle.model.proofs.Trees.Reading.{read_in}
 use Rattle.model.specs.declared.Counters.{Counters}
-use Rattle.model.specs.declared.PlaceWords.{PlaceWords}
 use Rattle.refusals.specs.Arrays.{Lower}
-use Rattle.rows.specs.Common.Counting.{parent_in, added_at, raised_at, is_watch_in, taken_in, marked_in, Climbed, at_root, one_up, Started, record_domain_in, Entered, is_shown, CountedShown}
+use Rattle.rows.specs.Common.Counting.{parent_in, added_at, raised_at, Climbed, at_root, one_up, Entered, is_shown, CountedShown}
 use Rattle.rows.specs.Common.Standing.{is_entry_number}
-
--- storing a word that is already there changes nothing
-pub set_same : (vs : List ℕ) (d v : ℕ) → v ≡ get_or vs d 0 → set vs d v ≡ vs
-set_same [] d v e = refl
-set_same (x ∷ vs) zero v e = rw e
-set_same (x ∷ vs) (suc d) v e = ap (λ ws. x ∷ ws) (set_same vs d v e)
-
-pub larger_kept : (vs : List ℕ) (d v : ℕ) → v ≤ get_or vs d 0 → set vs d (max (get_or vs d 0) v) ≡ vs
-larger_kept vs d v h = set_same vs d (max (get_or vs d 0) v) (omega arith)
-
-pub larger_taken : (vs : List ℕ) (d v : ℕ) → get_or vs d 0 < v → set vs d v ≡ set vs d (max (get_or vs d 0) v)
-larger_taken vs d v h = ap (set vs d) (omega arith)
 
 -- A STORE AS A WALK over all indices
 kept_from : (f : ℕ → ℕ → ℕ) (k : ℕ) (vs : List ℕ) → ((j v : ℕ) → k ≤ j → f j v ≡ v) → each_with_index f k vs ≡ vs
@@ -76,9 +63,6 @@ pub record Climbs (domains : ℕ) (parents : List ℕ) (home : ℕ) (entries : L
   pub long : length left ≡ length entries
   pub above : (d : ℕ) → d ≤ c → get_or left d 0 ≡ get_or entries d 0
   pub climbed : (ws : List ℕ) → Climbed (parent_in domains parents) c left ws → Climbed (parent_in domains parents) home entries ws
-
-pub climbs_start : (m : ℕ) (ps : List ℕ) (h : ℕ) (es : List ℕ) → h < m → Climbs m ps h es h es
-climbs_start m ps h es b = record { real = b; long = refl; above = λ d l. refl; climbed = λ ws k. k }
 
 pub climbs_on :
     (m : ℕ) (ps : List ℕ) (h : ℕ) (es : List ℕ) (c : ℕ) (vs : List ℕ) → Lower m ps → c ≢ 0 → Climbs m ps h es c vs →
@@ -186,29 +170,6 @@ pub counted_here :
     CountedShown shown (k + 1) old (record { entries = now.entries; tenures = set now.tenures k (get_or now.tenures k 0 + 1); longest = set now.longest k (max (get_or now.longest k 0) 1) })
 counted_here shown k old now e n g = counted_next shown k old now g k (rw e) _ (rw (ne_eqb k 0 n)) (rw (ne_eqb k 0 n))
 
--- ONE MARK
-module _ (m : ℕ) (ps : List ℕ) (h : ℕ) (vs : List ℕ) (q : PlaceWords) (v : ℕ) (bs : List Bool) (c : ℕ) (e : c ≡ taken_in m ps h 0) (n : ℕ) (f : n ≡ v) where
-  pub not_marked : (get_or vs (256 + c) 0 ≡ n → ⊥) → bs ≡ marked_in m ps h vs q v bs
-  not_marked other =
-      let z : eqb (get_or vs (256 + taken_in m ps h 0) 0) v ≡ false = ne_eqb (get_or vs (256 + taken_in m ps h 0) 0) v (λ y. other (rw (e, f) y)) in
-      rw z (sym (ap (λ b. cond b (set bs (taken_in m ps h 0) true) bs) (and_false (is_watch_in q))))
-
-  pub is_marked : is_watch_in q ≡ true → get_or vs (256 + c) 0 ≡ n → set bs c true ≡ marked_in m ps h vs q v bs
-  is_marked w y =
-      let z : eqb (get_or vs (256 + taken_in m ps h 0) 0) v ≡ true = eq-eqb (get_or vs (256 + taken_in m ps h 0) 0) v (rw (← e, ← f) y) in
-      rw (w, z, e)
-
--- AN ENTRY, from the reported kind
-pub entered : (p : ℕ → ℕ) (k h : ℕ) (es es' : List ℕ) → is_entry_number k ≡ true → Climbed p h es es' → Entered p k h es es'
-entered p k h es es' e c = record { entry = λ z. c; other = λ z. absurd (false≢true (sym z ∙ e)) }
-
+-- a step that is no entry counts none
 pub not_entered : (p : ℕ → ℕ) (k h : ℕ) (es : List ℕ) → is_entry_number k ≡ false → Entered p k h es es
 not_entered p k h es e = record { entry = λ z. absurd (false≢true (sym e ∙ z)); other = λ z. refl }
-
--- a thread's own record starts no tenure
-pub nothing_started : {old new : Counters} (k : ℕ) {r : ℕ} → r < 256 → Started (cond (eqb k 1) 0 (record_domain_in r)) old new → Started 0 old new
-nothing_started k {r} h g = rw (none (eqb k 1)) at g
-  where
-    none : (b : Bool) → cond b 0 (record_domain_in r) ≡ 0
-    none true = refl
-    none false = rw (lt-ltb r 256 h)

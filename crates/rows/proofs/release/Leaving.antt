@@ -2,7 +2,6 @@
 use Rattle.std.proofs.Common.{◌≡◌, ℕ, Bool, true, false, cond, not, ◌&&◌, eqb, refl, ap, ◌∙◌}
 use borrow.Author.Tests.{eqb-false}
 use Rattle.model.specs.declared.Place.TheVariants.{Idle, Check, Help, Raise}
-use Rattle.model.specs.Places.{words_of}
 use Rattle.model.specs.Trees.{Tree, is_ticket, child}
 use Rattle.model.specs.Steps.{release_place, done_place}
 use Rattle.rows.specs.declared.common.Member.{Member}
@@ -31,12 +30,3 @@ release_is t k r d =
     by true false = refl
     by false true = refl
     by false false = refl
-
--- the place where releasing a domain starts is no Grant
-pub release_no_grant : (k d : ℕ) → eqb (words_of (release_at k d)).row 10 ≡ false
-release_no_grant k d = by (eqb d 0) (eqb k 0)
-  where
-    by : (a b : Bool) → eqb (words_of (cond a (cond b (Help d) Raise) (Check d))).row 10 ≡ false
-    by true true = refl
-    by true false = refl
-    by false b = refl

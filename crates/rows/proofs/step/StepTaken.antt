@@ -110,11 +110,11 @@ domain_back : (d : ℕ) → record_domain_in (256 + d) ≡ d
 domain_back d = let z : ltb (256 + d) 256 ≡ false = le-ltb (256 + d) 256 (omega arith) in rw z (omega arith)
 
 -- a thread that is ready for its step
-pub record Turn (words : TreeWords) (i : ℕ) (q : PlaceWords) : Type 0 where
-  pub ready : Ready (tree_of words) i q
+pub record Turn (tree : TreeWords) (i : ℕ) (q : PlaceWords) : Type 0 where
+  pub ready : Ready (tree_of tree) i q
 
-pub turn_of : (words : TreeWords) (i : ℕ) (q : PlaceWords) → Ready (tree_of words) i q → Turn words i q
-turn_of words i q ready = record { ready = ready }
+pub turn_of : (tree : TreeWords) (i : ℕ) (q : PlaceWords) → Ready (tree_of tree) i q → Turn tree i q
+turn_of tree i q ready = record { ready = ready }
 
 -- what the code knows from an accepted tree
 module _ {tree : TreeWords} {i : ℕ} {q : PlaceWords} (turn : Turn tree i q) where
@@ -157,26 +157,6 @@ module _ {tree : TreeWords} {i : ℕ} {q : PlaceWords} (turn : Turn tree i q) wh
     pub words : (x : Place) → p ≡ x → q ≡ words_of x
     words x e = sym (words_of_place q not_invalid) ∙ ap words_of (sym a ∙ e)
 
-    pub row_of : (x : Place) → p ≡ x → q.row ≡ (words_of x).row
-    row_of x e = ap (λ (y : PlaceWords). y.row) (words x e)
-
-    pub link_fits : (l x : ℕ) → p ≡ Link l x → x < 320
-    link_fits l x e = link_small t accepts i turn.ready.thread l x (good (Link l x) e)
-
-    pub grant_fits : (l x w : ℕ) → p ≡ Grant l x w → x < 320
-    grant_fits l x w e = grant_small t accepts i turn.ready.thread l x w (good (Grant l x w) e)
-
-    -- what a step counts from any place except Raise and Check
-    pub counted :
-        (x : Place) → p ≡ x → (words_of x).row ≢ 13 → (words_of x).row ≢ 6 → (after : PlaceWords) (kind : ℕ) (shown : List Bool) (old new : Counters) (d : ℕ) →
-        d ≡ started_in tree.domains tree.parents (get_or tree.homes i 0) (words_of x) after.row kind → Started d old new → CountedStep tree.domains tree.parents (get_or tree.homes i 0) q after kind shown old new
-    counted x e r c after kind shown old new d f s =
-        other_counted tree.domains tree.parents (get_or tree.homes i 0) q after kind shown old new (λ z. r (sym (row_of x e) ∙ z)) (λ z. c (sym (row_of x e) ∙ z)) d
-        (f ∙ ap (λ y. started_in tree.domains tree.parents (get_or tree.homes i 0) y after.row kind) (sym (words x e))) s
-
-    pub shown_kept : (x : Place) → p ≡ x → (words_of x).row ≢ 13 → (shown : List Bool) → ShownLeft q shown shown
-    shown_kept x e r shown = record { raise = λ z. absurd (r (sym (row_of x e) ∙ z)); other = λ n. refl }
-
     module _ {l : ℕ} (b : l ≡ row_domain (get_or tree.homes i 0) q.row q.domain) where
       domain_is : l ≡ place_domain (get_or tree.homes i 0) p
       domain_is = b ∙ rw (words p refl) (place_by_row (get_or tree.homes i 0) p never)
@@ -185,72 +165,125 @@ module _ {tree : TreeWords} {i : ℕ} {q : PlaceWords} (turn : Turn tree i q) wh
       unfolding tree_of
       real = rw (domain_is, ← home_is) (domain_real t accepts i turn.ready.thread p (good p refl))
 
-      pub small : l < 64
-      small = omega (arith, real, fits.leads_up.few_domains)
-
       pub at : (x : Place) → p ≡ x → l ≡ place_domain (get_or tree.homes i 0) x
       at x e = domain_is ∙ ap (place_domain (get_or tree.homes i 0)) e
 
-      module _ {w : Member} (M : MemberOf tree.domains tree.parents i (get_or tree.homes i 0) l w) where
-        pub stands : Stands t i w
-        unfolding own_record child tree_of
-        stands =
-            record {
-              home_is = M.home_is ∙ sym home_is;
-              own_is = rw (M.domain_is, home_is) (own (eqb l (get_or tree.homes i 0)) refl);
-              child_is = λ d. rw M.domain_is ((M.above_home (λ e. d (M.domain_is ∙ e ∙ sym M.home_is))).0 ∙ kid);
-            }
-          where
-            kid : child_from 6 (parents_in tree.domains tree.parents) l (get_or tree.homes i 0) ≡ child_from 6 t l (t.home i)
-            kid = child_same 6 (parents_in tree.domains tree.parents) t l (get_or tree.homes i 0) (λ x. refl) ∙ ap (child_from 6 t l) (sym home_is)
+-- a turn, with its place, its domain and the thread as a member of the domain, as the code has found them
+pub record Found (tree : TreeWords) (i : ℕ) (q : PlaceWords) (p : Place) (l : ℕ) (w : Member) : Type 0 where
+  pub turn : Turn tree i q
+  pub place_is : p ≡ place_of q
+  pub domain_is : l ≡ row_domain (get_or tree.homes i 0) q.row q.domain
+  pub member : MemberOf tree.domains tree.parents i (get_or tree.homes i 0) l w
 
-            own : (x : Bool) → eqb l (get_or tree.homes i 0) ≡ x → w.own ≡ cond x i (256 + child_from 6 t l (get_or tree.homes i 0))
-            own true e = M.at_home (eqb-true l (get_or tree.homes i 0) e)
-            own false e =
-                let f = M.above_home (eqb-false l (get_or tree.homes i 0) e) in
-                f.1 ∙ ap (λ v. 256 + v) (f.0 ∙ child_same 6 (parents_in tree.domains tree.parents) t l (get_or tree.homes i 0) (λ x. refl))
+pub found :
+    {tree : TreeWords} {i : ℕ} {q : PlaceWords} {p : Place} {l : ℕ} {w : Member} → Turn tree i q → p ≡ place_of q → l ≡ row_domain (get_or tree.homes i 0) q.row q.domain →
+    MemberOf tree.domains tree.parents i (get_or tree.homes i 0) l w → Found tree i q p l w
+found r a b m = record { turn = r; place_is = a; domain_is = b; member = m }
 
-        pub above : Above t tree.ticket_root w.domain (get_or tree.parents w.domain 0)
-        unfolding tree_of
-        above =
-            record {
-              parent_is = λ d. sym (parent_in tree.domains tree.threads tree.parents tree.thresholds tree.homes w.domain (omega (arith, d)) (rw M.domain_is real));
-              root_is = refl;
-            }
+module _ {tree : TreeWords} {i : ℕ} {q : PlaceWords} {p : Place} {l : ℕ} {w : Member} (F : Found tree i q p l w) where
+  abbrev named : Tree
+  named = tree_of tree
 
-        -- the domain whose record the thread works with
-        pub own_taken : record_domain_in w.own ≡ taken_in tree.domains tree.parents (get_or tree.homes i 0) l
-        own_taken = by (eqb l (get_or tree.homes i 0)) refl
-          where
-            by : (x : Bool) → eqb l (get_or tree.homes i 0) ≡ x → record_domain_in w.own ≡ cond x 0 (child_from 6 (parents_in tree.domains tree.parents) l (get_or tree.homes i 0))
-            by true e = rw (M.at_home (eqb-true l (get_or tree.homes i 0) e)) (rw (lt-ltb i 256 (omega (arith, fits.real, fits.few_threads))))
-            by false e =
-                let f = M.above_home (eqb-false l (get_or tree.homes i 0) e) in
-                ap (λ r. record_domain_in r) f.1 ∙ domain_back w.child ∙ f.0
+  accepts_tree : Accepted named
+  accepts_tree = accepts F.turn
 
-        pub taken :
-            (x : Place) (said : Moved) (old new : State) → p ≡ x → new.places ≡ old.places →
-            (place_at old i ≡ q → Done (row_at t i w.domain x old) i said new) → StepDone t i q said old new
-        taken x said old new e kept f =
-            record {
-              places_kept = kept;
-              does = λ here.
-                  let now : place_of q ≡ x = sym a ∙ e in
-                  let there : w.domain ≡ place_domain (t.home i) x = M.domain_is ∙ at x e ∙ ap (λ h. place_domain h x) (sym home_is) in
-                  rw (now, ← row_same t i x old, ← there) (f here);
-            }
+  good_at : (x : Place) → p ≡ x → good_place named i x ≡ true
+  good_at = good F.turn F.place_is
 
-        pub inner : (c : ℕ) → p ≡ Check c → w.domain ≢ 0
-        inner c e = rw (M.domain_is ∙ at (Check c) e) (check_inner t i c (good (Check c) e))
+  pub home_real : w.home < tree.domains
+  home_real = rw F.member.home_is (fits F.turn).home_real
 
-        pub threshold_is : w.domain ≢ 0 → get_or tree.thresholds w.domain 0 % 65536 ≡ t.threshold w.domain
-        unfolding tree_of
-        threshold_is d = rw (read_in 1 tree.domains tree.thresholds w.domain (omega (arith, d)) (rw M.domain_is real))
+  pub home_same : named.home i ≡ get_or tree.homes i 0
+  home_same = home_is F.turn
 
-        -- if the domain of the place is the root, so is the thread's domain
-        pub at_root : (x : Place) → p ≡ x → place_domain (get_or tree.homes i 0) x ≡ 0 → w.domain ≡ 0
-        at_root x e z = M.domain_is ∙ at x e ∙ z
+  pub words_are : (x : Place) → p ≡ x → q ≡ words_of x
+  words_are = words F.turn F.place_is
 
-        -- an Idle thread works with its own record
-        pub own_small : p ≡ Idle → w.own < 256
-        own_small e = omega (arith, M.at_home (at Idle e), fits.real, fits.few_threads)
+  pub row_of : (x : Place) → p ≡ x → q.row ≡ (words_of x).row
+  row_of x e = ap (λ (y : PlaceWords). y.row) (words_are x e)
+
+  pub link_fits : (l x : ℕ) → p ≡ Link l x → x < 320
+  link_fits l x e = link_small named accepts_tree i F.turn.ready.thread l x (good_at (Link l x) e)
+
+  pub grant_fits : (l x w : ℕ) → p ≡ Grant l x w → x < 320
+  grant_fits l x w e = grant_small named accepts_tree i F.turn.ready.thread l x w (good_at (Grant l x w) e)
+
+  -- what a step counts from any place except Raise and Check
+  pub counted :
+      (x : Place) → p ≡ x → eqb (words_of x).row 13 ≡ false → eqb (words_of x).row 6 ≡ false → (after : PlaceWords) (kind : ℕ) (shown : List Bool) (old new : Counters) (d : ℕ) →
+      d ≡ started_in tree.domains tree.parents (get_or tree.homes i 0) (words_of x) after.row kind → Started d old new → CountedStep tree.domains tree.parents (get_or tree.homes i 0) q after kind shown old new
+  counted x e r c after kind shown old new d f s =
+      other_counted tree.domains tree.parents (get_or tree.homes i 0) q after kind shown old new (λ z. eqb-false _ 13 r (sym (row_of x e) ∙ z)) (λ z. eqb-false _ 6 c (sym (row_of x e) ∙ z)) d
+      (f ∙ ap (λ y. started_in tree.domains tree.parents (get_or tree.homes i 0) y after.row kind) (sym (words_are x e))) s
+
+  pub shown_kept : (x : Place) → p ≡ x → eqb (words_of x).row 13 ≡ false → (shown : List Bool) → ShownLeft q shown shown
+  shown_kept x e r shown = record { raise = λ z. absurd (eqb-false _ 13 r (sym (row_of x e) ∙ z)); other = λ n. refl }
+
+  in_tree : l < tree.domains
+  in_tree = real F.turn F.place_is F.domain_is
+
+  pub at_domain : (x : Place) → p ≡ x → l ≡ place_domain (get_or tree.homes i 0) x
+  at_domain = at F.turn F.place_is F.domain_is
+
+  pub stands : Stands named i w
+  unfolding own_record child tree_of
+  stands =
+      record {
+        home_is = F.member.home_is ∙ sym home_same;
+        own_is = rw (F.member.domain_is, home_same) (own (eqb l (get_or tree.homes i 0)) refl);
+        child_is = λ d. rw F.member.domain_is ((F.member.above_home (λ e. d (F.member.domain_is ∙ e ∙ sym F.member.home_is))).0 ∙ kid);
+      }
+    where
+      kid : child_from 6 (parents_in tree.domains tree.parents) l (get_or tree.homes i 0) ≡ child_from 6 named l (named.home i)
+      kid = child_same 6 (parents_in tree.domains tree.parents) named l (get_or tree.homes i 0) (λ x. refl) ∙ ap (child_from 6 named l) (sym home_same)
+
+      own : (x : Bool) → eqb l (get_or tree.homes i 0) ≡ x → w.own ≡ cond x i (256 + child_from 6 named l (get_or tree.homes i 0))
+      own true e = F.member.at_home (eqb-true l (get_or tree.homes i 0) e)
+      own false e =
+          let f = F.member.above_home (eqb-false l (get_or tree.homes i 0) e) in
+          f.1 ∙ ap (λ v. 256 + v) (f.0 ∙ child_same 6 (parents_in tree.domains tree.parents) named l (get_or tree.homes i 0) (λ x. refl))
+
+  pub above : Above named tree.ticket_root w.domain (get_or tree.parents w.domain 0)
+  unfolding tree_of
+  above =
+      record {
+        parent_is = λ d. sym (parent_in tree.domains tree.threads tree.parents tree.thresholds tree.homes w.domain (omega (arith, d)) (rw F.member.domain_is in_tree));
+        root_is = refl;
+      }
+
+  -- the domain whose record the thread works with
+  pub own_taken : record_domain_in w.own ≡ taken_in tree.domains tree.parents (get_or tree.homes i 0) l
+  own_taken = by (eqb l (get_or tree.homes i 0)) refl
+    where
+      by : (x : Bool) → eqb l (get_or tree.homes i 0) ≡ x → record_domain_in w.own ≡ cond x 0 (child_from 6 (parents_in tree.domains tree.parents) l (get_or tree.homes i 0))
+      by true e = rw (F.member.at_home (eqb-true l (get_or tree.homes i 0) e)) (rw (lt-ltb i 256 (omega (arith, (fits F.turn).real, (fits F.turn).few_threads))))
+      by false e =
+          let f = F.member.above_home (eqb-false l (get_or tree.homes i 0) e) in
+          ap (λ r. record_domain_in r) f.1 ∙ domain_back w.child ∙ f.0
+
+  pub taken :
+      (x : Place) (said : Moved) (old new : State) → p ≡ x → new.places ≡ old.places →
+      (place_at old i ≡ q → Done (row_at named i w.domain x old) i said new) → StepDone named i q said old new
+  taken x said old new e kept f =
+      record {
+        places_kept = kept;
+        does = λ here.
+            let now : place_of q ≡ x = sym F.place_is ∙ e in
+            let there : w.domain ≡ place_domain (named.home i) x = F.member.domain_is ∙ at_domain x e ∙ ap (λ h. place_domain h x) (sym home_same) in
+            rw (now, ← row_same named i x old, ← there) (f here);
+      }
+
+  pub inner : (c : ℕ) → p ≡ Check c → w.domain ≢ 0
+  inner c e = rw (F.member.domain_is ∙ at_domain (Check c) e) (check_inner named i c (good_at (Check c) e))
+
+  pub threshold_is : w.domain ≢ 0 → get_or tree.thresholds w.domain 0 % 65536 ≡ named.threshold w.domain
+  unfolding tree_of
+  threshold_is d = rw (read_in 1 tree.domains tree.thresholds w.domain (omega (arith, d)) (rw F.member.domain_is in_tree))
+
+  -- if the domain of the place is the root, so is the thread's domain
+  pub at_root : (x : Place) → p ≡ x → place_domain (get_or tree.homes i 0) x ≡ 0 → w.domain ≡ 0
+  at_root x e z = F.member.domain_is ∙ at_domain x e ∙ z
+
+  -- an Idle thread works with its own record
+  pub own_small : p ≡ Idle → w.own < 256
+  own_small e = omega (arith, F.member.at_home (at_domain Idle e), (fits F.turn).real, (fits F.turn).few_threads)

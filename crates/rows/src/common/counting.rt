@@ -25,10 +25,7 @@ fn record_domain(r: u16) -> u8
     ensures value { result ≡ record_domain_in r }
     ensures upper_bound { result < 64 }
 {
-    if r < 256 {
-        return 0;
-    }
-    (r - 256) as u8
+    if r < 256 { 0 } else { (r - 256) as u8 }
 }
 
 // Counts one more tenure of a domain; nothing for domain 0.
@@ -72,6 +69,7 @@ pub fn count_entry(tree: &TreeWords, home: u8, entries: &mut [u64; 64])
     ensures { Climbed (parent_in tree.now.domains tree.now.parents) home entries.old entries.new }
 {
     let mut c = home;
+    // Kept: the climb ends at the root, which no range names.
     while c != 0 {
         let at = c as usize;
         entries[at] += 1;
@@ -82,16 +80,15 @@ pub fn count_entry(tree: &TreeWords, home: u8, entries: &mut [u64; 64])
 fn is_watch_at(q: PlaceWords) -> bool
     ensures { result ≡ is_watch_in q }
 {
-    if q.row != 12 {
-        return false;
-    }
-    if q.domain != 0 {
-        return false;
-    }
-    if q.peer != 0 {
-        return false;
-    }
-    q.word == 0
+    matches!(
+        q,
+        PlaceWords {
+            row: 12,
+            domain: 0,
+            peer: 0,
+            word: 0,
+        }
+    )
 }
 
 // One more; 0 comes after 65,535.
@@ -116,14 +113,12 @@ pub fn looked_at(tree: &TreeWords, row: u8, words: &State) -> u32
     requires { tree.now.domains ≤ 64 }
     ensures { Looked row words.now.statuses tree.now.domains (wrap (words.now.grant + 1)) tree.now.threads result }
 {
-    if row != 13 {
-        return 0;
-    }
     let v = u64::from(next_number(words.grant));
-    if holds_ticket(&words.statuses, tree.domains, v) {
-        return tree.threads;
+    if row == 13 && holds_ticket(&words.statuses, tree.domains, v) {
+        tree.threads
+    } else {
+        0
     }
-    0
 }
 
 // A thread that watches: the domain for whose record it watches is marked if the record has the ticket that a raise shows.

@@ -70,26 +70,22 @@ pub fn words_at(place: Place) -> PlaceWords
 pub fn acquire_place_at(ticket_root: u32, d: u8) -> Place
     ensures { result ≡ acquire_at ticket_root d }
 {
-    if d != 0 {
-        return Place::Prep(d);
+    if d == 0 && ticket_root != 0 {
+        Place::Draw
+    } else {
+        Place::Prep(d)
     }
-    if ticket_root == 0 {
-        return Place::Prep(d);
-    }
-    Place::Draw
 }
 
 // The place where releasing a domain starts.
 pub fn release_place_at(ticket_root: u32, d: u8) -> Place
     ensures { result ≡ release_at ticket_root d }
 {
-    if d != 0 {
-        return Place::Check(d);
+    match (d, ticket_root) {
+        (0, 0) => Place::Help(d),
+        (0, _) => Place::Raise,
+        _ => Place::Check(d),
     }
-    if ticket_root == 0 {
-        return Place::Help(d);
-    }
-    Place::Raise
 }
 
 // Where a thread goes after releasing a domain.
@@ -107,11 +103,8 @@ pub fn done_place_at(home: u8, l: u8, child: u8) -> Place
 pub fn domain_by_row(home: u8, row: u8, l: u8) -> u8
     ensures { result ≡ row_domain home row l }
 {
-    if row == 0 {
-        return home;
+    match row {
+        0 | 5 => home,
+        _ => l,
     }
-    if row == 5 {
-        return home;
-    }
-    l
 }
