@@ -21,6 +21,7 @@ use Rattle.model.proofs.Laws.Form.{not_invalid}
 use Rattle.model.proofs.Laws.Runs.{steps_length}
 use Rattle.model.proofs.Places.{words_of_place}
 use Rattle.rows.specs.declared.common.rows.Moved.{Moved}
+use Rattle.rows.specs.Kinds.{number_of_kind}
 use Rattle.rows.specs.Common.Rows.{Done}
 use Rattle.lock.specs.Steps.Running.{code_of, step_code, code_stored, codes_front}
 use Rattle.lock.proofs.steps.SoFar.{next_step, thread_at}
@@ -72,7 +73,7 @@ module _ (t : Tree) (is : List ℕ) (s₀ : State) (b₀ : List ℕ) where
   pub codes_turn :
       (b : List ℕ) (s : State) (k : ℕ) (m : Moved) (left : State) (b' : List ℕ) → AllThreads t is → k < length is → Formed t s → s ≡ state_after s₀ (steps t (take k is) s₀) →
       Done (row t (get_or is k 0) (place s (get_or is k 0)) s) (get_or is k 0) m left → Coded b k →
-      (let q = numbers_at s.places (get_or is k 0) in b' ≡ code_stored b k (code_of m.kind q.row q.domain)) → Coded b' (k + 1)
+      (let q = numbers_at s.places (get_or is k 0) in b' ≡ code_stored b k (code_of (number_of_kind m.kind) q.row q.domain)) → Coded b' (k + 1)
   unfolding step step_code
   codes_turn b s k m left b' all h f st D g eb =
       let i = get_or is k 0 in
@@ -80,7 +81,7 @@ module _ (t : Tree) (is : List ℕ) (s₀ : State) (b₀ : List ℕ) where
       let x = step t i s in
       let xs = steps t (take k is) s₀ in
       let words : words_of (place_of q) ≡ q = words_of_place q (not_invalid t i (place s i) (((well_formed_facts t s f).places i).used (thread_at t is all k h))) in
-      let code : code_of m.kind q.row q.domain ≡ step_code x = ap (λ v. code_of v q.row q.domain) D.kind_is ∙ ap (λ (w : PlaceWords). code_of (kind_number x.kind) w.row w.domain) (sym words) in
+      let code : code_of (number_of_kind m.kind) q.row q.domain ≡ step_code x = ap (λ v. code_of v q.row q.domain) D.kind_is ∙ ap (λ (w : PlaceWords). code_of (kind_number x.kind) w.row w.domain) (sym words) in
       let long : k ≡ length xs = sym (steps_length t (take k is) s₀ ∙ length-take-le k is (omega arith)) in
       let joined : steps t (take (k + 1) is) s₀ ≡ xs ++ (x ∷ []) = next_step t is [] s₀ k h ∙ ap (λ v. xs ++ (step t i v ∷ [])) (sym st) in
       record {

@@ -24,9 +24,10 @@ use Rattle.model.proofs.Laws.Kinds.{kind_law}
 use Rattle.model.proofs.Counted.{how_many_most}
 use Rattle.model.proofs.Tests.{by_test}
 use Rattle.rows.specs.declared.common.rows.Moved.{Moved}
+use Rattle.rows.specs.Kinds.{number_of_kind}
 use Rattle.rows.specs.Common.Rows.{with_place_words, Done}
 use Rattle.rows.specs.Common.Standing.{is_entry_number}
-use Rattle.lock.specs.Steps.Running.{kinds_of, counted, counts_by, traced_at, trace_front, placed}
+use Rattle.lock.specs.Steps.Running.{kinds_of, counted, counts_by, traced_at, trace_front}
 
 -- KINDS by their numbers
 pub kind_small : (k : Kind) → kind_number k < 6
@@ -45,14 +46,6 @@ entry_number root_entry = refl
 entry_number passed_entry = refl
 entry_number crossed_entry = refl
 entry_number leaving = refl
-
-zero_stay : (k : Kind) → kind_number k ≡ 0 → k ≡ stay
-zero_stay stay e = refl
-zero_stay other e = absurd (omega arith)
-zero_stay root_entry e = absurd (omega arith)
-zero_stay passed_entry e = absurd (omega arith)
-zero_stay crossed_entry e = absurd (omega arith)
-zero_stay leaving e = absurd (omega arith)
 
 -- COUNTS by kind, with one more step
 count_kind :
@@ -149,25 +142,6 @@ thread_at t (i ∷ is) a (suc k) h = thread_at t is a.1 k (omega arith)
 pub below : (t : Tree) (is : List ℕ) → (tree_refusal t).number ≡ 0 → AllThreads t is → (k : ℕ) → k < length is → get_or is k 0 < 256
 below t is z a k h = omega (arith, (accepted t z).few_threads, thread_at t is a k h)
 
--- a step that stays does not change the thread's place, so it need not be stored
-pub stay_placed :
-    (t : Tree) (is : List ℕ) (s : State) (k : ℕ) (m : Moved) (left : State) → (tree_refusal t).number ≡ 0 → AllThreads t is → k < length is → Formed t s →
-    Done (row t (get_or is k 0) (place s (get_or is k 0)) s) (get_or is k 0) m left → left.places ≡ s.places → m.kind ≡ 0 →
-    s.places ≡ store_numbers s.places (get_or is k 0) m.place
-unfolding KindLaw step
-stay_placed t is s k m left accepted all h f D same z =
-    let i = get_or is k 0 in
-    let stays : (row t i (place s i) s).state ≡ s = (kind_law t i s accepted (thread_at t is all k h) f).stays_exactly.0 (zero_stay _ (sym D.kind_is ∙ z)) in
-    sym (ap (λ qs. store_numbers qs i m.place) (sym same) ∙ ap (λ (x : State). x.places) (D.state_left ∙ stays))
-
-pub now_placed :
-    (t : Tree) (is : List ℕ) (s : State) (k : ℕ) (m : Moved) (left : State) → (tree_refusal t).number ≡ 0 → AllThreads t is → k < length is → Formed t s →
-    Done (row t (get_or is k 0) (place s (get_or is k 0)) s) (get_or is k 0) m left → left.places ≡ s.places →
-    placed m.kind s.places (get_or is k 0) m.place ≡ store_numbers s.places (get_or is k 0) m.place
-now_placed t is s k m left accepted all h f D same =
-    by_test (λ q. q ≡ store_numbers s.places (get_or is k 0) m.place) (eqb m.kind 0) s.places (store_numbers s.places (get_or is k 0) m.place)
-    (λ z. stay_placed t is s k m left accepted all h f D same (eqb-true _ 0 z)) (λ _. refl)
-
 module _ (t : Tree) (is b₀ : List ℕ) (s₀ : State) where
   -- the steps of the first k entries
   abbrev pub first_steps : ℕ → List Step
@@ -205,29 +179,29 @@ module _ (t : Tree) (is b₀ : List ℕ) (s₀ : State) where
       let z : k + 1 ≡ suc k = add-one k in
       rw (z, take-suc is k 0 h) (steps_join t (take k is) (get_or is k 0 ∷ []) s₀)
 
-  -- the kind of a step has a number below 6, and no kind has more steps than there are entries done
+  -- no kind has more steps than there are entries done
   pub kind_room :
       (b : List ℕ) (s : State) (kinds : List ℕ) (entries k : ℕ) (m : Moved) (left : State) → SoFar b s kinds entries k →
       Done (row t (get_or is k 0) (place s (get_or is k 0)) s) (get_or is k 0) m left → k < length is → length is ≤ 65536 →
-      (m.kind < 6) × (get_or kinds m.kind 0 < 65536)
+      get_or kinds (number_of_kind m.kind) 0 < 65536
   kind_room b s kinds entries k m left g D h short =
       let x = (row t (get_or is k 0) (place s (get_or is k 0)) s).kind in
       let few : how_many (is_kind x) (first_steps k) ≤ k = omega (arith, how_many_most (is_kind x) (first_steps k), steps_length t (take k is) s₀, length-take-le k is g.within) in
-      let at : get_or kinds m.kind 0 ≡ how_many (is_kind x) (first_steps k) = ap (λ v. get_or v m.kind 0) g.kinds_are ∙ ap (λ v. get_or (kinds_of (first_steps k)) v 0) D.kind_is ∙ kind_at x (first_steps k) in
-      (omega (arith, D.kind_is, kind_small x), omega (arith, at, few))
+      let at : get_or kinds (number_of_kind m.kind) 0 ≡ how_many (is_kind x) (first_steps k) = ap (λ v. get_or v (number_of_kind m.kind) 0) g.kinds_are ∙ ap (λ v. get_or (kinds_of (first_steps k)) v 0) D.kind_is ∙ kind_at x (first_steps k) in
+      omega (arith, at, few)
 
   -- one turn of the loop
   pub turn :
       (b : List ℕ) (s : State) (kinds : List ℕ) (entries k : ℕ) (m : Moved) (left : State) (b' : List ℕ) (s' : State) (entries' : ℕ) →
       (tree_refusal t).number ≡ 0 → SixteenBit t → AllThreads t is → length is ≤ length b₀ → k < length is → SoFar b s kinds entries k →
       Done (row t (get_or is k 0) (place s (get_or is k 0)) s) (get_or is k 0) m left → s' ≡ with_place_words (get_or is k 0) m.place left →
-      entries' ≡ entries + cond (is_entry_number m.kind) 1 0 → b' ≡ traced_at b entries m.kind (get_or is k 0) →
-      SoFar b' s' (counted kinds m.kind) entries' (k + 1)
+      entries' ≡ entries + cond (is_entry_number (number_of_kind m.kind)) 1 0 → b' ≡ traced_at b entries (number_of_kind m.kind) (get_or is k 0) →
+      SoFar b' s' (counted kinds (number_of_kind m.kind)) entries' (k + 1)
   unfolding run run_of steps step state_after how_many entering FormLaw
   turn b s kinds entries k m left b' s' entries' accepted sixteen all room h g D es ee eb =
       let i = get_or is k 0 in
       let x = step t i s in
-      let kind : m.kind ≡ kind_number x.kind = D.kind_is in
+      let kind : (number_of_kind m.kind) ≡ kind_number x.kind = D.kind_is in
       let after : s' ≡ x.state = es ∙ D.state_left in
       let c = at_most (is_entry x.kind) in
       let n : entries' ≡ entries + cond (is_entry x.kind) 1 0 = ee ∙ ap (λ v. entries + cond v 1 0) (ap is_entry_number kind ∙ entry_number x.kind) in
@@ -236,14 +210,14 @@ module _ (t : Tree) (is b₀ : List ℕ) (s₀ : State) where
       let traces : entering (first_steps (k + 1)) ≡ entering xs ++ (cond (is_entry x.kind) (i ∷ []) [] ++ []) = ap entering joined ∙ entering_join xs (x ∷ []) in
       record {
         within = omega arith;
-        long = rw eb (traced_long b entries m.kind i) ∙ g.long;
+        long = rw eb (traced_long b entries (number_of_kind m.kind) i) ∙ g.long;
         formed = rw after ((form_law t sixteen accepted).of_step i s (thread_at t is all k h) g.formed);
         state_is = after ∙ sym (ap (state_after s₀) joined ∙ state_after_join s₀ xs (x ∷ []));
-        kinds_are = ap (λ v. counted v m.kind) g.kinds_are ∙ ap (counted (kinds_of xs)) kind ∙ sym (ap kinds_of joined ∙ kinds_next xs x);
+        kinds_are = ap (λ v. counted v (number_of_kind m.kind)) g.kinds_are ∙ ap (counted (kinds_of xs)) kind ∙ sym (ap kinds_of joined ∙ kinds_next xs x);
         entries_are = n ∙ rw (traces, length-append, one_long (is_entry x.kind) i) (ap (λ v. v + cond (is_entry x.kind) 1 0) g.entries_are);
         entries_fit = omega (arith, g.entries_fit);
         trace_is =
-            eb ∙ ap (λ v. traced_at v entries m.kind i) g.trace_is ∙ ap (λ v. traced_at (trace_front b₀ (run t (take k is) s₀)) entries v i) kind
+            eb ∙ ap (λ v. traced_at v entries (number_of_kind m.kind) i) g.trace_is ∙ ap (λ v. traced_at (trace_front b₀ (run t (take k is) s₀)) entries v i) kind
             ∙ front_kind x.kind (entering xs) b₀ entries i g.entries_are (omega (arith, g.entries_fit))
             ∙ sym (ap (λ v. v ++ drop (length v) b₀) traces);
       }

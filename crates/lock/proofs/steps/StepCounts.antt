@@ -39,6 +39,7 @@ use Rattle.model.proofs.Trees.Reading.{home_read}
 use Rattle.refusals.specs.Arrays.{parents_in}
 use Rattle.model.specs.declared.Counters.{Counters}
 use Rattle.rows.specs.declared.common.rows.Moved.{Moved}
+use Rattle.rows.specs.Kinds.{number_of_kind}
 use Rattle.rows.specs.Common.Rows.{Done}
 use Rattle.rows.specs.Common.Counting.{parent_in, taken_in, record_domain_in, raised_at, is_watch_in, Entered}
 use Rattle.rows.specs.Step.Counting.{started_in, CountedStep}
@@ -141,7 +142,7 @@ module _ (w : TreeWords) (ok : (tree_refusal (tree_of w)).number ≡ 0) (i : ℕ
   unfolding step
   after = ap (λ (n : State). numbers_at n.places i) (sym D.state_left) ∙ ap (λ (ps : PlaceArrays). numbers_at (store_numbers ps i said.place) i) same ∙ numbers_stored s.places i said.place room
 
-  module _ (h : ℕ) (home : h ≡ t.home i) (shown : List Bool) (c₁ c₂ : Counters) (C : CountedStep w.domains w.parents h q said.place said.kind shown c₁ c₂) where
+  module _ (h : ℕ) (home : h ≡ t.home i) (shown : List Bool) (c₁ c₂ : Counters) (C : CountedStep w.domains w.parents h q said.place (number_of_kind said.kind) shown c₁ c₂) where
     abbrev ts : List ℕ
     ts = c₁.tenures
 
@@ -152,7 +153,7 @@ module _ (w : TreeWords) (ok : (tree_refusal (tree_of w)).number ≡ 0) (i : ℕ
     Both = (c₂.tenures ≡ each_with_index (λ d v. v + domain_tenures t d (step t i s ∷ [])) 0 ts) × (c₂.longest ≡ each_with_index (λ d v. max v (longest_tenure t d (step t i s ∷ []))) 0 ls)
 
     abbrev started : ℕ
-    started = started_in w.domains w.parents h q said.place.row said.kind
+    started = started_in w.domains w.parents h q said.place.row (number_of_kind said.kind)
 
     finish : q.row ≢ 13 → q.row ≢ 6 → StartOf (given_from t i (place s i) s) started → ((d : ℕ) → checks_at d (place s i) ≡ false) → Both
     finish n o g u =
@@ -160,11 +161,11 @@ module _ (w : TreeWords) (ok : (tree_refusal (tree_of w)).number ≡ 0) (i : ℕ
         (both.0 ∙ start_added t i s started g u ts, both.1 ∙ start_raised t i s started g u ls)
 
     -- a place from which no tenure starts
-    quiet : (p : Place) → place s i ≡ p → given_from t i p s ≡ [] → started_in w.domains w.parents h (words_of p) said.place.row said.kind ≡ 0 → (words_of p).row ≢ 13 → (words_of p).row ≢ 6 → ((d : ℕ) → checks_at d p ≡ false) → Both
+    quiet : (p : Place) → place s i ≡ p → given_from t i p s ≡ [] → started_in w.domains w.parents h (words_of p) said.place.row (number_of_kind said.kind) ≡ 0 → (words_of p).row ≢ 13 → (words_of p).row ≢ 6 → ((d : ℕ) → checks_at d p ≡ false) → Both
     quiet p z g c n o u =
         let row : q.row ≡ (words_of p).row = ap (λ (x : PlaceWords). x.row) (words ∙ ap words_of z) in
         finish (λ y. n (sym row ∙ y)) (λ y. o (sym row ∙ y))
-        (nobody (ap (λ (x : Place). given_from t i x s) z ∙ g) (ap (λ (x : PlaceWords). started_in w.domains w.parents h x said.place.row said.kind) (words ∙ ap words_of z) ∙ c))
+        (nobody (ap (λ (x : Place). given_from t i x s) z ∙ g) (ap (λ (x : PlaceWords). started_in w.domains w.parents h x said.place.row (number_of_kind said.kind)) (words ∙ ap words_of z) ∙ c))
         (λ d. ap (checks_at d) z ∙ u d)
 
     -- the rows of the places from which a tenure may start
@@ -190,7 +191,7 @@ module _ (w : TreeWords) (ok : (tree_refusal (tree_of w)).number ≡ 0) (i : ℕ
     unfolding started_in checks_at given_at
     from_draw z =
         let y = row_is Draw z in
-        let a : eqb said.kind 1 ≡ not (eqb s.ticket s.grant) = ap (λ v. eqb v 1) D.kind_is ∙ ap (λ (p : Place). eqb (kind_number (row t i p s).kind) 1) z ∙ draw_kind t i s (branch t i s Draw) in
+        let a : eqb (number_of_kind said.kind) 1 ≡ not (eqb s.ticket s.grant) = ap (λ v. eqb v 1) D.kind_is ∙ ap (λ (p : Place). eqb (kind_number (row t i p s).kind) 1) z ∙ draw_kind t i s (branch t i s Draw) in
         let c : started ≡ cond (not (eqb s.ticket s.grant)) 0 (taken_in w.domains w.parents h 0) = rw (y, a) in
         finish (λ x. absurd (omega (arith, ap (λ (v : PlaceWords). v.row) y))) (λ x. absurd (omega (arith, ap (λ (v : PlaceWords). v.row) y)))
         (rw (c, z, gives t i Draw s) (own_started t valid w.domains w.parents same_parents (eqb s.ticket s.grant) i 0 h b (on_path_root t valid i b) home))
@@ -257,13 +258,13 @@ module _ (w : TreeWords) (ok : (tree_refusal (tree_of w)).number ≡ 0) (i : ℕ
     tenures_counted k = by_place (place s i) refl good (λ z. marks (k z))
 
     pub step_counted :
-        Entered (parent_in w.domains w.parents) said.kind h c₁.entries c₂.entries →
+        Entered (parent_in w.domains w.parents) (number_of_kind said.kind) h c₁.entries c₂.entries →
         (place s i ≡ Raise → Marked w.domains w.parents w.homes s.statuses s.places (wrap (s.grant + 1)) w.threads shown) →
         c₂ ≡ counters_after t c₁ (step t i s ∷ [])
     unfolding counters_after tree_of step
     step_counted g k =
         let both = tenures_counted k in
-        let g' : Entered t.parent said.kind (t.home i) c₁.entries c₂.entries = rw home at g in
+        let g' : Entered t.parent (number_of_kind said.kind) (t.home i) c₁.entries c₂.entries = rw home at g in
         let each : record { entries = c₂.entries; tenures = c₂.tenures; longest = c₂.longest } ≡ counters_after t c₁ (step t i s ∷ []) =
-        rw (both.0, both.1, entries_counted t valid i b s said.kind c₁.entries c₂.entries D.kind_is g') in
+        rw (both.0, both.1, entries_counted t valid i b s (number_of_kind said.kind) c₁.entries c₂.entries D.kind_is g') in
         each

@@ -32,10 +32,6 @@ counts_by ks =
       crossed = get_or ks 4 0;
     }
 
--- the places after a step: a stay changes none
-abbrev pub placed : (kind : ℕ) → PlaceArrays → (thread : ℕ) → PlaceWords → PlaceArrays
-placed k q i x = cond (eqb k 0) q (store_numbers q i x)
-
 -- the buffer with an entering thread at an index
 abbrev pub traced_at : List ℕ → (at kind thread : ℕ) → List ℕ
 traced_at b n k i = cond (is_entry_number k) (set b n i) b

@@ -3,26 +3,26 @@ ghost use Rattle.std.specs.Prelude.{◌≡◌, cond, ◌+◌, ◌*◌, ◌/◌, 
 ghost use Rattle.model.specs.Trees.{tree_of};
 ghost use Rattle.model.specs.Counters.{counters_after};
 ghost use Rattle.model.specs.Refusals.{first_refusal, tree_refusal, run_tests_before_19};
-ghost use Rattle.model.specs.States.{wrap};
+ghost use Rattle.model.specs.States.{wrap, store_numbers};
 ghost use Rattle.model.specs.Runs.{steps, run};
 ghost use Rattle.model.specs.Laws.{Typed};
 ghost use Rattle.rows.specs.Common.Standing.{row_domain, is_entry_number};
 ghost use Rattle.rows.specs.Common.Counting.{Clear};
+ghost use Rattle.rows.specs.Kinds.{number_of_kind};
 ghost use Rattle.lock.specs.Steps.Counting.{Marked};
-ghost use Rattle.lock.specs.Steps.Running.{kinds_of, counted, counts_by, traced_at, trace_front, code_of, code_stored, codes_front, placed};
+ghost use Rattle.lock.specs.Steps.Running.{kinds_of, counted, counts_by, traced_at, trace_front, code_of, code_stored, codes_front};
 
 use model::{Counts, LockState, PlaceArrays, PlaceWords, State, TreeWords};
 use refusals::of_runs::places;
 use rows::common::counting;
+use rows::kinds::Kind;
 
 // Counts one more step of a kind.
-fn count_in(kinds: &mut [u32; 6], kind: u8)
-    requires kind_bound { kind < 6 }
-    requires kind_bound_2 { get_or kinds.old kind 0 < 65536 }
-    ensures { kinds.new ≡ counted kinds.old kind }
+fn count_in(kinds: &mut [u32; 6], kind: Kind)
+    requires { get_or kinds.old (number_of_kind kind) 0 < 65536 }
+    ensures { kinds.new ≡ counted kinds.old (number_of_kind kind) }
 {
-    let at = kind as usize;
-    kinds[at] = kinds[at] + 1;
+    kinds[usize::from(kind.number())] += 1;
 }
 
 // The counts of a run, given how many of its steps are of each kind.
@@ -46,42 +46,26 @@ pub fn counts_of(kinds: &[u32; 6]) -> Counts
     }
 }
 
-// Whether the kind is an entry, which arrives Inside.
-pub fn is_entry(kind: u8) -> bool
-    ensures { result ≡ is_entry_number kind }
-{
-    if kind == model::ROOT_ENTRY {
-        return true;
-    }
-    if kind == model::PASSED_ENTRY {
-        return true;
-    }
-    kind == model::CROSSED_ENTRY
-}
-
 // Writes an entering thread to the trace at an index, and returns the index after it.
-fn trace_at(trace: &mut [u16], at: u32, kind: u8, i: u16) -> u32
-    requires at_in_bounds { at < length trace.old }
-    requires at_bound { at < 65536 }
-    ensures value { result ≡ at + cond (is_entry_number kind) 1 0 }
-    ensures trace_after { trace.new ≡ traced_at trace.old at kind i }
+fn trace_at(trace: &mut [u16], at: usize, kind: Kind, i: u16) -> usize
+    requires { at < length trace.old }
+    ensures value { result ≡ at + cond (is_entry_number (number_of_kind kind)) 1 0 }
+    ensures trace_after { trace.new ≡ traced_at trace.old at (number_of_kind kind) i }
 {
-    if is_entry(kind) {
-        let k = at as usize;
-        trace[k] = i;
+    if kind.is_entry() {
+        trace[at] = i;
         return at + 1;
     }
     at
 }
 
 // Writes a step as one number, if the buffer is long enough.
-fn put_code(codes: &mut [u16], at: usize, kind: u8, row: u8, domain: u8)
-    ensures { codes.new ≡ code_stored codes.old at (code_of kind row domain) }
+fn put_code(codes: &mut [u16], at: usize, kind: Kind, row: u8, domain: u8)
+    ensures { codes.new ≡ code_stored codes.old at (code_of (number_of_kind kind) row domain) }
 {
-    if codes.len() <= at {
-        return;
+    if at < codes.len() {
+        codes[at] = u16::from(kind.number()) + 8 * u16::from(row) + 128 * u16::from(domain);
     }
-    codes[at] = kind as u16 + 8 * (row as u16) + 128 * (domain as u16);
 }
 
 // The domain of a step, given its thread's home and the number that reports the step.
@@ -94,14 +78,12 @@ pub fn domain_of_code(home: u8, code: u16) -> u32
     }
 }
 
-// Stores the place after a step unless the step is a stay.
-fn put_place(places: &mut PlaceArrays, at: usize, kind: u8, place: PlaceWords)
+// Stores the place after a step.
+#[tactic(auto, unfolding(model::specs::States::store_numbers))]
+fn put_place(places: &mut PlaceArrays, at: usize, place: PlaceWords)
     requires { at < 256 }
-    ensures { places.new ≡ placed kind places.old at place }
+    ensures { places.new ≡ store_numbers places.old at place }
 {
-    if kind == model::STAY {
-        return;
-    }
     places.rows[at] = place.row;
     places.domains[at] = place.domain;
     places.peers[at] = place.peer;
@@ -148,7 +130,7 @@ pub fn run_lent(
 {
     fits_its_type(*state);
     let mut shown = [false; 64];
-    let mut entered: u32 = 0;
+    let mut entered = 0;
     *kinds = [0; 6];
     for (k, thread) in schedule.iter().enumerate() {
         let i = *thread;
@@ -158,7 +140,7 @@ pub fn run_lent(
         mark_watching(tree, &state.words, looked, &mut shown);
         let m = rows::step::take(tree, i, before, looked, &mut state.words, &mut shown, &mut state.counters);
         count_in(kinds, m.kind);
-        put_place(&mut state.words.places, at, m.kind, m.place);
+        put_place(&mut state.words.places, at, m.place);
         entered = trace_at(trace, entered, m.kind, i);
         put_code(codes, k, m.kind, before.row, before.domain);
     }

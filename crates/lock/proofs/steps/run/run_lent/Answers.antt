@@ -1,15 +1,14 @@
 -- `lock::steps::run::run_lent` meets its contract: the entries so far have given the state, the trace, how many steps are of each kind and the counters of the domains.
-use mathlib.Core.Path.{◌≡◌, sym, ap, ◌∙◌}
-use lib.ListN.{get_or}
+use mathlib.Core.Path.{sym, ap}
 use Rattle.model.specs.declared.PlaceArrays.{PlaceArrays}
 use Rattle.model.specs.States.{store_numbers}
-use Rattle.lock.specs.Steps.Running.{placed}
+use Rattle.rows.specs.Kinds.{number_of_kind}
 use native.Mathlib.Omega.{arith}
 use Rattle.model.specs.Trees.{tree_of}
 use Rattle.model.proofs.Laws.Calls.{early_facts}
 use Rattle.model.proofs.Trees.Accepted.{sixteen_bit}
 use Rattle.refusals.proofs.of_runs.Passing.{shape_of}
-use Rattle.lock.proofs.steps.SoFar.{start, kind_room, now_placed, turn, state_ends, trace_ends, kinds_end, thread_at}
+use Rattle.lock.proofs.steps.SoFar.{start, kind_room, turn, state_ends, trace_ends, kinds_end, thread_at}
 use Rattle.lock.proofs.steps.Reporting.{codes_start, codes_turn, codes_end}
 use Rattle.lock.proofs.steps.Tallying.{tallied_start, tallied_turn, tallied_ends}
 use Rattle.lock.proofs.steps.Turns.{thread_small, ready}
@@ -49,25 +48,17 @@ take-m-requires-clause-room_above c = let w = c.args.tree.now in
 pub take-m-requires-clause-shown_for : goal.take-m-requires-clause-shown_for
 take-m-requires-clause-shown_for c = shown_for c.args.tree.now (early_facts _ _ _ _ c.requires).tree _ _ _ _ _ _ _ c.looked_at-looked.ensures (omega arith) (omega arith) c.mark_watching.ensures
 
-pub count_in-requires-clause-kind_bound : goal.count_in-requires-clause-kind_bound
-count_in-requires-clause-kind_bound c = let r = early_facts _ _ _ _ c.requires in
+pub count_in-requires : goal.count_in-requires
+count_in-requires c = let r = early_facts _ _ _ _ c.requires in
     let does = rw c.place_at-before.ensures at (c.take-m.ensures.fact.does (sym c.place_at-before.ensures)) in
-    (kind_room _ _ _ _ _ c.loop-k.state.words _ _ _ _ _ c.loop-k.invariant.0 does c.loop-k-test.true r.short).0
-
-pub count_in-requires-clause-kind_bound_2 : goal.count_in-requires-clause-kind_bound_2
-count_in-requires-clause-kind_bound_2 c = let r = early_facts _ _ _ _ c.requires in
-    let does = rw c.place_at-before.ensures at (c.take-m.ensures.fact.does (sym c.place_at-before.ensures)) in
-    (kind_room _ _ _ _ _ c.loop-k.state.words _ _ _ _ _ c.loop-k.invariant.0 does c.loop-k-test.true r.short).1
+    kind_room _ _ _ _ _ c.loop-k.state.words _ _ _ _ _ c.loop-k.invariant.0 does c.loop-k-test.true r.short
 
 pub put_place-requires : goal.put_place-requires
 put_place-requires c = thread_small _ _ _ _ _ (early_facts _ _ _ _ c.requires) c.loop-k-test.true
 
-pub trace_at-entered-requires-clause-at_in_bounds : goal.trace_at-entered-requires-clause-at_in_bounds
-trace_at-entered-requires-clause-at_in_bounds c = let g = c.loop-k.invariant.0 in
+pub trace_at-entered-requires : goal.trace_at-entered-requires
+trace_at-entered-requires c = let g = c.loop-k.invariant.0 in
     omega (arith, c.loop-k-test.true, g.entries_fit, g.long, (early_facts _ _ _ _ c.requires).fits)
-
-pub trace_at-entered-requires-clause-at_bound : goal.trace_at-entered-requires-clause-at_bound
-trace_at-entered-requires-clause-at_bound c = omega (arith, c.loop-k-test.true, c.loop-k.invariant.0.entries_fit, (early_facts _ _ _ _ c.requires).short)
 
 pub loop-k-preserved : goal.loop-k-preserved
 unfolding tree_of
@@ -85,11 +76,8 @@ loop-k-preserved c = let test = c.loop-k-test.true in
     let kept = c.take-m.ensures.fact.places_kept in
     let th = thread_at _ _ r.threads _ test in
     let so_far = c.loop-k.invariant.0 in
-    let i = get_or c.args.schedule.now c.loop-k.k 0 in
     let left = c.take-m.new.words in
-    let stored : c.put_place.new.places ≡ store_numbers left.places i m.place =
-    c.put_place.ensures ∙ ap (λ qs. placed m.kind qs i m.place) kept ∙ now_placed _ _ n _ m _ r.tree r.threads test so_far.formed does kept ∙ ap (λ qs. store_numbers qs i m.place) (sym kept) in
-    let words = ap (λ (qs : PlaceArrays). record { tails = left.tails; nexts = left.nexts; statuses = left.statuses; places = qs; ticket = left.ticket; grant = left.grant }) stored in
+    let words = ap (λ (qs : PlaceArrays). record { tails = left.tails; nexts = left.nexts; statuses = left.statuses; places = qs; ticket = left.ticket; grant = left.grant }) c.put_place.ensures in
     let counts = step_counted w r.tree _ th n so_far.formed m _ kept does _ (home_is w r.tree _ th) _ _ _ (rw stands at c.take-m.ensures.counted_step) c.take-m.ensures.entered (λ z. raise_marked w r.tree _ th n so_far.formed _ _ _ look (omega arith) (omega arith) z marks) in
     (rw tallied (turn _ _ _ _ _ n _ _ _ m _ _ _ _ r.tree (sixteen_bit w) r.threads r.fits test so_far does words c.trace_at-entered.ensures.value c.trace_at-entered.ensures.trace_after), codes_turn _ _ _ _ _ n _ m _ _ r.threads test so_far.formed so_far.state_is does c.loop-k.invariant.1 codes, tallied_turn _ _ _ _ _ _ n _ test so_far.state_is c.loop-k.invariant.2 counts, marks_cleared w r.tree _ _ _ _ _ _ _ _ look (omega arith) marks (rw stands at c.take-m.ensures.shown_left))
 
