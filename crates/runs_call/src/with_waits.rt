@@ -1,9 +1,9 @@
 // A run with waits: what refuses it, 4 to 9, 16 and 10 to 13, then 18, 27 and 19; the mean of a row; and the run itself.
-ghost use Rattle.std.specs.Prelude.{◌≡◌};
+ghost use Rattle.std.specs.Prelude.{◌≡◌, ◌<◌, IfSome};
 ghost use Rattle.model.specs.Trees.{tree_of};
 ghost use Rattle.model.specs.Refusals.{first_refusal};
 ghost use Rattle.refusals.specs.Reasons.{refusal_of};
-ghost use Rattle.refusals.specs.Lowest.{Lowest};
+ghost use Rattle.refusals.specs.Lowest.{Lowest, or_end};
 ghost use Rattle.waits.specs.Rows.{greatest_divisor, mean};
 ghost use Rattle.waits.specs.Refusals.{waits_tests_before_19, bad_under_way, waits_on_refusal};
 ghost use Rattle.waits.specs.Answers.{waits_answer, waits_trace, waits_rows, waits_on_answer, waits_on_trace, waits_on_rows, waits_on_under_way};
@@ -80,19 +80,17 @@ fn is_bad_number(threads: u32, at: u32, number: u64) -> bool
     number != 0
 }
 
-// The lowest index of such a number; 256 if there is none.
-fn lowest_bad_number(tree: TreeWords, under_way: &[u64; 256]) -> u32
-    ensures { Lowest 256 (bad_under_way (tree_of tree) under_way.now) result }
+// The lowest index of such a number.
+fn lowest_bad_number(tree: &TreeWords, under_way: &[u64; 256]) -> Option<u32>
+    ensures found { IfSome result (λ k. k < 256) }
+    ensures lowest { Lowest 256 (bad_under_way (tree_of tree.now) under_way.now) (or_end result 256) }
 {
-    let mut k: u32 = 0;
-    while k < 256 {
-        let number = under_way[k as usize];
-        if is_bad_number(tree.threads, k, number) {
-            return k;
+    for k in 0..256 {
+        if is_bad_number(tree.threads, k, under_way[k as usize]) {
+            return Some(k);
         }
-        k += 1;
     }
-    k
+    None
 }
 
 // The same tests, followed by 27 and 19.

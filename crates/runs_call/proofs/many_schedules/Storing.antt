@@ -11,9 +11,10 @@ use Rattle.model.specs.declared.TreeWords.{TreeWords}
 use Rattle.model.specs.declared.RunReply.{RunReply}
 use Rattle.model.specs.Trees.{tree_of}
 use Rattle.schedules.specs.Rows.{total, cut, alone, row_of, rows_of, after_one_another, all_rows}
-use Rattle.refusals.specs.declared.Refusal.{Refusal}
-use Rattle.refusals.specs.Arrays.{refusal_words}
-use Rattle.refusals.proofs.RunTests.{refusal_words_not, refusal_words_zero}
+use Rattle.model.specs.Refusals.{refusal, accepted}
+use Rattle.refusals.specs.declared.reasons.Refusal as refusals
+use Rattle.refusals.specs.Reasons.{number_of}
+use Rattle.refusals.proofs.Refusing.{reason_numbered, error_numbered, ok_numbered}
 use Rattle.schedules.specs.Refusals.{many_refusal}
 use Rattle.schedules.specs.Answers.{many_answer, many_reply, rows_answer}
 use Rattle.runs_call.proofs.many_schedules.Adding.{total_next}
@@ -77,21 +78,23 @@ rows_written w ns es b e =
     rw (sets-eq (all_rows w (cut ns es)) b 0 (omega arith), z) (sym (rows_accepted w ns es b e))
 
 -- THE CALL, by the result of its tests
-module _ (w : TreeWords) (ns es b : List ℕ) (r : Refusal) (e : r ≡ refusal_words (many_refusal (tree_of w) ns (length es) (length b))) where
-  pub call_refuses : (r.number ≡ 0 → ⊥) → (record { number = r.number; place = r.place; rows = 0 } ≡ many_reply w ns es b) × (b ≡ rows_answer w ns es b)
-  unfolding many_answer many_reply
-  call_refuses n =
-      let m = refusal_words_not r _ e n in
-      (rw (e, ne_eqb (many_refusal (tree_of w) ns (length es) (length b)).number 0 m), sym (rows_refused w ns es b m))
+module _ (w : TreeWords) (ns es b : List ℕ) where
+  module _ (x : refusals.Refusal) (e : refusal (number_of x.reason) x.place ≡ many_refusal (tree_of w) ns (length es) (length b)) where
+    pub call_refuses : record { number = number_of x.reason; place = x.place; rows = 0 } ≡ many_reply w ns es b
+    unfolding many_answer many_reply refusal
+    call_refuses = rw (sym e, ne_eqb (number_of x.reason) 0 (reason_numbered x.reason))
 
-  module _ (z : r.number ≡ 0) where
+    pub rows_kept : b ≡ rows_answer w ns es b
+    rows_kept = sym (rows_refused w ns es b (error_numbered x e))
+
+  module _ (z : accepted ≡ many_refusal (tree_of w) ns (length es) (length b)) where
     pub call_good : GoodCall (tree_of w) ns (length es) (length b)
-    call_good = call_facts (tree_of w) ns (length es) (length b) (refusal_words_zero r _ e z)
+    call_good = call_facts (tree_of w) ns (length es) (length b) (ok_numbered z)
 
-    pub call_answered :
-        (b' : List ℕ) → b' ≡ sets b 0 (all_rows w (cut ns es)) →
-        (record { number = r.number; place = r.place; rows = length ns } ≡ many_reply w ns es b) × (b' ≡ rows_answer w ns es b)
-    unfolding many_answer many_reply
-    call_answered b' f =
-        let ok = refusal_words_zero r _ e z in
-        (rw (e, eq-eqb (many_refusal (tree_of w) ns (length es) (length b)).number 0 ok), f ∙ rows_written w ns es b ok)
+    pub call_replies : record { number = 0; place = 0; rows = length ns } ≡ many_reply w ns es b
+    unfolding many_answer many_reply accepted refusal
+    call_replies = rw (sym z)
+
+    pub call_answered : (b' : List ℕ) → b' ≡ sets b 0 (all_rows w (cut ns es)) → b' ≡ rows_answer w ns es b
+    unfolding many_answer
+    call_answered b' f = f ∙ rows_written w ns es b (ok_numbered z)

@@ -32,10 +32,7 @@ fn run_row(tree: &TreeWords, schedule: &[u16], trace: &mut [u16], rows: &mut [u3
 {
     match refusals::schedule_refusal_of(tree.threads, schedule, schedule.len()) {
         Ok(()) => {
-            let mut state = LockState {
-                words: lock::steps::fresh_state(0),
-                counters: lock::steps::fresh_counters(),
-            };
+            let mut state = lock::steps::fresh(0);
             let mut kinds = [0u32; 6];
             let mut codes = [0u16; 0];
             lock::steps::run::run_lent(tree, &mut state, schedule, trace, &mut kinds, &mut codes);
@@ -47,17 +44,17 @@ fn run_row(tree: &TreeWords, schedule: &[u16], trace: &mut [u16], rows: &mut [u3
 
 // The rows of all schedules in order, with one borrowed trace buffer for all of them.
 pub(crate) fn run_rows(
-    tree: TreeWords,
+    tree: &TreeWords,
     lengths: &[u32],
     entries: &[u16],
     trace: &mut [u16],
     rows: &mut [u32],
 )
-    requires tree_value { (tree_refusal (tree_of tree)).number ≡ 0 }
+    requires tree_value { (tree_refusal (tree_of tree.now)).number ≡ 0 }
     requires lengths_value { total lengths.now ≡ length entries.now }
     requires lengths_in_bounds { 8 * length lengths.now ≤ length rows.old }
     requires trace_len { length trace.old ≡ 65536 }
-    ensures { rows.new ≡ sets rows.old 0 (all_rows tree (cut lengths.now entries.now)) }
+    ensures { rows.new ≡ sets rows.old 0 (all_rows tree.now (cut lengths.now entries.now)) }
 {
     let mut k: usize = 0;
     let mut from: usize = 0;

@@ -3,18 +3,16 @@ ghost use Rattle.std.specs.Prelude.{◌≡◌, cond, ◌+◌, ◌*◌, ◌≤◌
 ghost use Rattle.std.proofs.lemmas.List.Edits.{sets};
 ghost use Rattle.model.specs.Trees.{tree_of};
 ghost use Rattle.model.specs.Runs.{steps, run};
-ghost use Rattle.model.specs.Counters.{lock_state, counters_after, most_counted};
-ghost use Rattle.model.specs.Laws.{Typed};
+ghost use Rattle.model.specs.Counters.{counters_after, most_counted};
+ghost use Rattle.rows.specs.Common.Standing.{is_entry_number};
 ghost use Rattle.model.specs.Refusals.{run_refusal};
-ghost use Rattle.refusals.specs.Arrays.{lent_state};
-ghost use Rattle.refusals.specs.OfRuns.Counts.{counters_in};
 ghost use Rattle.waits.specs.Attempts.{under_way_below};
 ghost use Rattle.waits.specs.Rows.{row_with, capped, all_rows_from};
 ghost use Rattle.runs_call.specs.WithWaits.Tallies.{first, begins_number, mark_with, mark_of, number_of, finishes, wait_of, noted, rows_by, numbers_by};
 ghost use Rattle.lock.specs.Steps.Running.{kinds_of, counts_by, trace_front};
 ghost use Rattle.runs_call.specs.WithWaits.Waiting.{kinds_added, ticket_home, mark_at, Fits, Countable, Counted, Small, MarksOf, HandedIn, MarksFit};
 
-use model::TreeWords;
+use model::{LockState, TreeWords};
 
 // The entries are counted from 2^63 on, so that there is a mark for every number that may be under way before them.
 const FIRST: u64 = 9223372036854775808;
@@ -131,6 +129,13 @@ fn capped_sum(a: u64, b: u64) -> u64
     a + b
 }
 
+// Whether the kind with this number is an entry.
+fn is_entry(kind: u16) -> bool
+    ensures { result ≡ is_entry_number kind }
+{
+    matches!(kind, 2 | 3 | 4)
+}
+
 // Counts one more step in the tables of its thread, given whether it begins an attempt and whether it enters.
 fn note(
     marks: &mut [u64; 256],
@@ -167,7 +172,7 @@ fn note(
 
 // Counts the steps of a piece one after another, and returns the number of entries so far.
 fn count_piece(
-    tree: TreeWords,
+    tree: &TreeWords,
     schedule: &[u16],
     codes: &[u16],
     count: u64,
@@ -176,8 +181,8 @@ fn count_piece(
     totals: &mut [u64; 256],
     longest: &mut [u64; 256],
 ) -> u64
-    requires { Countable (tree_of tree) schedule.now codes.now marks.old attempts.old totals.old longest.old count }
-    ensures { Counted (tree_of tree) schedule.now codes.now marks.old attempts.old totals.old longest.old count marks.new attempts.new totals.new longest.new result }
+    requires { Countable (tree_of tree.now) schedule.now codes.now marks.old attempts.old totals.old longest.old count }
+    ensures { Counted (tree_of tree.now) schedule.now codes.now marks.old attempts.old totals.old longest.old count marks.new attempts.new totals.new longest.new result }
 {
     let mut entered = count;
     let mut k: usize = 0;
@@ -186,7 +191,7 @@ fn count_piece(
         let code = codes[k];
         let home = tree.homes[at];
         let begins = begins_at(is_ticket_home(tree.ticket_root, home), home, code / 8);
-        let enters = lock::steps::run::is_entry((code % 8) as u8);
+        let enters = is_entry(code % 8);
         note(
             marks, attempts, totals, longest, at, entered, begins, enters,
         );

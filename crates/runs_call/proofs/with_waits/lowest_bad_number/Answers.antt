@@ -9,13 +9,10 @@ use Rattle.runs_call.proofs.with_waits.lowest_bad_number.Goals as goal
 pub loop-k-init : goal.loop-k-init
 loop-k-init c = scan_begun _ _
 
-pub returns-then-is_bad_number : goal.returns-then-is_bad_number
+pub returns-then-is_bad_number-clause-lowest : goal.returns-then-is_bad_number-clause-lowest
 unfolding bad_under_way tree_of
-returns-then-is_bad_number c = scan_found _ _ _ c.loop-k.invariant (sym c.is_bad_number.ensures ∙ c.if-is_bad_number.true)
+returns-then-is_bad_number-clause-lowest c = scan_found _ _ _ c.loop-k.invariant (sym c.is_bad_number.ensures ∙ c.if-is_bad_number.true)
 
 pub loop-k-preserved : goal.loop-k-preserved
 unfolding bad_under_way tree_of
 loop-k-preserved c = scan_goes_on _ _ _ c.loop-k.invariant (omega arith) (sym c.is_bad_number.ensures ∙ c.if-is_bad_number.false)
-
-pub returns : goal.returns
-returns c = scan_ended _ _ _ c.loop-k.invariant (omega arith)

@@ -1,5 +1,4 @@
 -- `runs_call::with_waits::lowest_bad_number` meets its contract: all numbers so far are valid.
-use Prim.Native.Nat.{◌-◌}
 use Rattle.model.specs.Trees.{tree_of}
 use Rattle.refusals.proofs.Scanning.{Scanned}
 use Rattle.waits.specs.Refusals.{bad_under_way}
@@ -7,6 +6,3 @@ use Rattle.runs_call.proofs.with_waits.lowest_bad_number.Given as goal
 
 abbrev pub invariant-loop-k : goal.invariant-loop-k
 invariant-loop-k l = Scanned 256 (bad_under_way (tree_of l.tree) l.under_way) l.k
-
-abbrev pub decreases-loop-k : goal.decreases-loop-k
-decreases-loop-k l = 256 - l.k
