@@ -43,7 +43,7 @@ fn stretch_of<'s, 'c>(
     ensures { let before = lent_lock tails.now nexts.now statuses.now rows.now places.now peers.now words.now ticket grant entries.now tenures.now longest.now in
         Stretch (tree_of tree) before threads.now result }
 {
-    let known = comparison::first_unknown(threads, tree.threads);
+    let known = comparison::first_unknown(threads, tree.threads).unwrap_or(threads.len());
     let r = limits::lent_counter_refusal_of(
         tree,
         tails,
@@ -184,13 +184,22 @@ fn check_piece(
         tree, tails, nexts, statuses, rows, places, peers, words, ticket, granted, entries,
         tenures, longest, threads, count, trace, codes,
     );
-    let same = comparison::first_difference(&tree.homes, threads, kinds, domains, codes, count);
-    if count <= same {
-        return Found {
-            number: stretch.number,
-            steps: count,
-        };
-    }
+    let same = match comparison::first_difference(
+        &tree.homes,
+        threads,
+        kinds,
+        domains,
+        codes,
+        count,
+    ) {
+        Some(same) => same,
+        None => {
+            return Found {
+                number: stretch.number,
+                steps: count,
+            };
+        }
+    };
     let number = comparison::number_of(kinds[same], codes[same]);
     *tails = kept_tails;
     *nexts = kept_nexts;
