@@ -1,11 +1,11 @@
 // A run with waits: what refuses it, 4 to 9, 16 and 10 to 13, then 18, 27 and 19; the mean of a row; and the run itself.
-ghost use Rattle.std.specs.Prelude.{◌≡◌};
+ghost use Rattle.std.specs.Prelude.{◌≡◌, ◌<◌, IfSome};
 ghost use Rattle.model.specs.Trees.{tree_of};
 ghost use Rattle.model.specs.Counters.{lock_state};
 ghost use Rattle.model.specs.Laws.{Typed};
 ghost use Rattle.model.specs.Refusals.{first_refusal};
 ghost use Rattle.refusals.specs.Arrays.{refusal_words, lent_state};
-ghost use Rattle.refusals.specs.Lowest.{Lowest};
+ghost use Rattle.refusals.specs.Lowest.{Lowest, or_end};
 ghost use Rattle.refusals.specs.OfRuns.Counts.{counters_in};
 ghost use Rattle.waits.specs.Rows.{greatest_divisor, mean};
 ghost use Rattle.waits.specs.Refusals.{waits_tests_before_19, bad_under_way, waits_on_refusal};
@@ -28,6 +28,7 @@ fn greatest_divisor(a: u64, b: u64) -> u64
 {
     let mut x = a;
     let mut y = b;
+    // Kept: how often it divides is not known in advance, so no `for` or iterator is plainer.
     while y != 0 {
         let rest = x % y;
         x = y;
@@ -95,28 +96,21 @@ pub fn waits_refusal_of<'s, 'c>(
 fn is_bad_number(threads: u32, at: u32, number: u64) -> bool
     ensures { result ≡ bad_number threads at number }
 {
-    if MOST < number {
-        return true;
-    }
-    if at < threads {
-        return false;
-    }
-    number != 0
+    MOST < number || threads <= at && number != 0
 }
 
-// The lowest index of such a number; 256 if there is none.
-fn lowest_bad_number(tree: TreeWords, under_way: &[u64; 256]) -> u32
-    ensures { Lowest 256 (bad_under_way (tree_of tree) under_way.now) result }
+// The lowest index of such a number.
+#[tactic(auto, unfolding(waits::specs::Refusals::bad_under_way, model::specs::Trees::tree_of))]
+fn lowest_bad_number(tree: &TreeWords, under_way: &[u64; 256]) -> Option<u32>
+    ensures lowest { Lowest 256 (bad_under_way (tree_of tree.now) under_way.now) (or_end result 256) }
+    ensures inside { IfSome result (λ place. place < 256) }
 {
-    let mut k: u32 = 0;
-    while k < 256 {
-        let number = under_way[k as usize];
-        if is_bad_number(tree.threads, k, number) {
-            return k;
-        }
-        k += 1;
-    }
-    k
+    let threads = tree.threads;
+    (0..256u32).find(
+        |k|
+            requires { k.now < 256 }
+        { is_bad_number(threads, *k, under_way[*k as usize]) },
+    )
 }
 
 // The same tests, followed by 27 and 19.
@@ -150,12 +144,8 @@ pub(crate) fn refusal_of<'s, 'c>(
     if r.number != 0 {
         return r;
     }
-    let k = lowest_bad_number(tree, under_way);
-    if k < 256 {
-        return Refusal {
-            number: 27,
-            place: k,
-        };
+    if let Some(place) = lowest_bad_number(&tree, under_way) {
+        return Refusal { number: 27, place };
     }
     lock::steps::limits::lent_counter_refusal_of(
         tree, tails, nexts, statuses, places, domains, peers, words, ticket, granted, entries,

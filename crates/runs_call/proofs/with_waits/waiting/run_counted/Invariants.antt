@@ -7,8 +7,8 @@ use Rattle.runs_call.proofs.with_waits.Pieces.{InPieces}
 use Rattle.runs_call.proofs.with_waits.waiting.run_counted.Given as goal
 
 abbrev pub invariant-loop-from : goal.invariant-loop-from
-invariant-loop-from l = InPieces l.tree l.under_way l.schedule l.initial.trace (lent_state l.initial.tails l.initial.nexts l.initial.statuses l.initial.places l.initial.domains l.initial.peers l.initial.words l.initial.ticket l.initial.granted) (counters_in l.initial.entries l.initial.tenures l.initial.longest) l.trace l.marks l.attempts l.totals l.largest
-    (lent_state l.tails l.nexts l.statuses l.places l.domains l.peers l.words l.ticket l.granted) (counters_in l.entries l.tenures l.longest) l.tally l.entered l.from
+invariant-loop-from l = InPieces l.tree l.under_way l.schedule l.initial.trace (lent_state l.initial.tails l.initial.nexts l.initial.statuses l.initial.places l.initial.domains l.initial.peers l.initial.words l.initial.ticket l.initial.granted) (counters_in l.initial.entries l.initial.tenures l.initial.longest) l.trace l.tally.marks l.tally.attempts l.tally.totals l.tally.longest
+    (lent_state l.tails l.nexts l.statuses l.places l.domains l.peers l.words l.ticket l.granted) (counters_in l.entries l.tenures l.longest) l.counts l.entered l.from
 
 abbrev pub decreases-loop-from : goal.decreases-loop-from
 decreases-loop-from l = length l.schedule - l.from
