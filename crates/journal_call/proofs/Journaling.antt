@@ -1,11 +1,10 @@
 -- The check of a journal piece by piece: the state so far, the entries left, and the result of a piece.
 use mathlib.Core.Path.{◌≡◌, sym, ap, ◌∙◌, subst}
-use mathlib.Core.Bool.{Bool}
+use Rattle.std.specs.Prelude.{Some}
 use mathlib.Core.List.{List, [], ◌∷◌}
 use mathlib.Core.Logic.{◌≢◌}
 use Prim.Native.Nat.{ℕ, zero, suc, ◌+◌, ◌%◌, ◌≤◌, ◌<◌}
 use native.Mathlib.Omega.{arith}
-use lib.Dec.{T as Holds}
 use lib.ListN.{length, get_or, take}
 use lib.Seq.{length-take-le, get_or-take}
 use borrow.Author.Tests.{eqb-true, eqb-false, eq-eqb, ne_eqb, not-false, not-true}
@@ -29,17 +28,18 @@ use Rattle.model.proofs.Laws.Refusals.{accepted_number}
 use Rattle.refusals.specs.Lowest.{Lowest}
 use Rattle.refusals.specs.declared.Refusal.{Refusal as RefusalWords}
 use Rattle.refusals.specs.Arrays.{refusal_words}
+use Rattle.refusals.specs.declared.reasons.Reason.{Reason}
+use Rattle.refusals.specs.Reasons.{number_of}
 use Rattle.refusals.proofs.RunTests.{refusal_words_not, refusal_words_zero}
 use Rattle.journal_call.specs.declared.reader.Piece.{Piece}
-use Rattle.journal_call.specs.Reader.Stretches.{position_after, Stretch}
+use Rattle.journal_call.specs.Reader.Stretches.{position_after, Stretch, Stops}
 use Rattle.journal_call.specs.Pieces.Pieces.{PieceRead}
 use Rattle.journal.specs.Answers.{fresh_lock, checked, journal_refusal, replied, journal_answer}
 use Rattle.journal.specs.Laws.{kind_numbers}
 use Rattle.journal_call.proofs.Stepping.{stretch_threads, stretch_moves, SameKinds, goes_on, stops_here, stopped_by, ended}
 use Rattle.lock.specs.Steps.Running.{codes_front, fresh_from}
 use Rattle.journal_call.specs.Kinds.{other_kind}
-use Rattle.journal_call.specs.declared.journals.Turn.{Turn}
-use Rattle.journal_call.specs.Journals.{SoFar, Turned, stop_of}
+use Rattle.journal_call.specs.Journals.{SoFar}
 use Rattle.lock.proofs.steps.Starting.{fresh_from_zero}
 use Rattle.lock.proofs.steps.StepCodes.{code_kind}
 
@@ -133,10 +133,12 @@ module _ (w : TreeWords) (bs : List ℕ) where
           rest_checked : checked (length bs) t s bs p b ≡ checked (length bs) t (state_after s (steps t is s)) bs c.position c.before
           rest_checked = goes_on t bs read s (same_kinds (length is) (omega (arith, long)))
 
-          -- reading stopped with a number
-          pub stops : c.number ≢ 0 → replied (refusal c.number c.position) ≡ journal_answer w bs
+          -- reading stopped for a reason
+          pub stops : (why : Reason) → c.refused ≡ Some why → replied (refusal (number_of why) c.position) ≡ journal_answer w bs
           unfolding tree_of
-          stops n = answers ok s p b g (refusal c.number c.position) (rest_checked ∙ stopped_by t bs _ c.position c.before c.number r.stops n)
+          stops why e =
+              let stopped : Stops w.threads bs c.position c.before (Some why) = subst (λ x. Stops w.threads bs c.position c.before x) e r.stops in
+              answers ok s p b g (refusal (number_of why) c.position) (rest_checked ∙ stopped_by t bs _ c.position c.before why stopped)
 
           -- the end of the journal
           pub ends : length bs ≤ c.position → replied (refusal 0 0) ≡ journal_answer w bs
@@ -152,7 +154,3 @@ module _ (w : TreeWords) (bs : List ℕ) where
                 formed = subst (λ x. Formed t x) (sym f) ((form_law t (sixteen_bit w) ok).of_run is s (stretch_threads t read) g.formed);
                 ahead = ap (λ x. checked (length bs) t x bs c.position c.before) f ∙ sym rest_checked ∙ g.ahead;
               }
-
--- a turn that stops has the answer
-pub stopping : (w : TreeWords) (bs : List ℕ) (p : ℕ) (r : Turn) (q b n m : ℕ) (s : State) → r ≡ stop_of q b n m → replied (refusal n m) ≡ journal_answer w bs → Turned w bs p r s
-stopping w bs p r q b n m s e a = subst (λ x. Turned w bs p x s) (sym e) (record { goes = λ z. absurd (subst (λ (h : Bool). Holds h) z tt); ends = λ _. a })

@@ -1,4 +1,3 @@
 -- What several proofs use.
-pub mod Marking
 pub mod Stepping
 pub mod Journaling

@@ -1,6 +1,9 @@
 -- A piece of the journal compared with the steps of its threads: the check continues after it, or 26 refuses at the first entry whose kind is not the step's.
 use mathlib.Core.Path.{◌≡◌, refl, sym, ap, ◌∙◌}
 use mathlib.Core.List.{List}
+use Rattle.std.specs.Prelude.{Some}
+use Rattle.refusals.specs.declared.reasons.Reason.{Reason}
+use Rattle.refusals.specs.Reasons.{number_of}
 use mathlib.Core.Logic.{◌≢◌}
 use Prim.Native.Nat.{ℕ, zero, suc, ◌+◌, ◌≤◌, ◌<◌}
 use native.Mathlib.Omega.{arith}
@@ -11,7 +14,7 @@ use Rattle.model.specs.Steps.{step}
 use Rattle.model.specs.Runs.{steps, state_after}
 use Rattle.model.specs.Refusals.{refusal, accepted}
 use Rattle.model.specs.Laws.{AllThreads}
-use Rattle.journal_call.specs.Reader.Stretches.{position_after, Stretch, none_read, one_read, Stops, for_room, for_broken, for_thread}
+use Rattle.journal_call.specs.Reader.Stretches.{position_after, Stretch, none_read, one_read, Stops, for_broken, for_thread}
 use Rattle.journal.specs.Answers.{checked}
 use Rattle.journal.specs.Laws.{kind_numbers}
 use Rattle.journal.proofs.Facts.{moves_on}
@@ -68,11 +71,10 @@ module _ (t : Tree) (bs : List ℕ) where
         checked (length bs) t s bs p b ≡ refusal 26 (position_after m bs p b)
     stops_here m h f d = enough t bs (length bs) (length is + length bs) s p b (omega arith) (omega arith) ∙ stretch_stops r s m h f d (length bs)
 
-  -- after a piece: the number with which reading stopped, or the end of the journal
-  pub stopped_by : (s : State) (p b n : ℕ) → Stops t.threads bs p b n → n ≢ 0 → checked (length bs) t s bs p b ≡ refusal n p
-  stopped_by s p b _ for_room z = absurd (z refl)
-  stopped_by s p b _ (for_broken f) z = enough t bs (length bs) (suc (length bs)) s p b (omega arith) (omega arith) ∙ broken_entry t bs (length bs) s p b f
-  stopped_by s p b _ (for_thread {i = i} {k = k} {next = q} f h) z =
+  -- after a piece: the reason for which reading stopped, or the end of the journal
+  pub stopped_by : (s : State) (p b : ℕ) (why : Reason) → Stops t.threads bs p b (Some why) → checked (length bs) t s bs p b ≡ refusal (number_of why) p
+  stopped_by s p b _ (for_broken f) = enough t bs (length bs) (suc (length bs)) s p b (omega arith) (omega arith) ∙ broken_entry t bs (length bs) s p b f
+  stopped_by s p b _ (for_thread {i = i} {k = k} {next = q} f h) =
       enough t bs (length bs) (suc (length bs)) s p b (omega arith) (omega arith) ∙ unknown_thread t bs (length bs) s p b i k q f h
 
   pub ended : (s : State) (p b : ℕ) → length bs ≤ p → checked (length bs) t s bs p b ≡ accepted

@@ -1,74 +1,50 @@
 // The steps that a journal names, taken from a fresh lock, piece by piece: the entries of a piece are read, their threads stepped by the run's loop, and the reported kinds compared. One reader goes through the whole journal.
-ghost use Rattle.std.specs.Prelude.{◌≡◌, cond, ◌%◌, ◌≤◌, eqb, length, take};
+ghost use Rattle.std.specs.Prelude.{◌≡◌, true, ◌<◌, ◌≤◌, length, take, IfSome};
 ghost use Rattle.model.specs.Trees.{tree_of};
 ghost use Rattle.model.specs.Runs.{steps, run};
 ghost use Rattle.model.specs.Counters.{lock_state, fresh_counters};
 ghost use Rattle.model.specs.Refusals.{refusal, first_refusal, tree_refusal, run_tests_before_19};
-ghost use Rattle.refusals.specs.Lowest.{Lowest};
+ghost use Rattle.refusals.specs.Lowest.{Lowest, or_end};
 ghost use Rattle.model.specs.Laws.{Typed};
 ghost use Rattle.refusals.specs.Arrays.{lent_state};
 ghost use Rattle.lock.specs.Steps.Running.{codes_front};
 ghost use Rattle.journal_call.specs.Kinds.{other_kind, AllSameKinds};
-ghost use Rattle.journal_call.specs.Journals.{SoFar, Turned, stop_of};
+ghost use Rattle.journal_call.specs.Journals.{SoFar, Turned};
 ghost use Rattle.journal.specs.Answers.{replied, journal_answer};
 
-use crate::reader::{Piece, Reader};
+use crate::reader::Reader;
 use journal::JournalReply;
 use model::TreeWords;
+use refusals::reasons::Reason;
 
-// The mark 1 if a kind is not the one reported for a step; otherwise the mark unchanged.
-fn marked(mark: u16, kind: u8, code: u16) -> u16
-    ensures { result ≡ cond (eqb kind (code % 8)) mark 1 }
-{
-    if (kind as u16) != code % 8 {
-        return 1;
-    }
-    mark
-}
-
-// 0 if all entries name the kinds that the run's loop reported. It looks at all of them, so that the compiler can compare many at once.
-fn any_difference(kinds: &[u8], codes: &[u16], count: usize) -> u16
+// Whether all entries name the kinds that the run's loop reported. It looks at all of them, so that the compiler can compare many at once.
+fn all_same_kinds(kinds: &[u8], codes: &[u16], count: usize) -> bool
     requires count_in_bounds { count ≤ length kinds.now }
     requires count_in_bounds_2 { count ≤ length codes.now }
-    ensures { result ≡ 0 → AllSameKinds kinds.now codes.now count }
+    ensures { result ≡ true → AllSameKinds kinds.now codes.now count }
 {
-    let mut mark: u16 = 0;
-    let mut k: usize = 0;
-    while k < count {
-        mark = marked(mark, kinds[k], codes[k]);
-        k += 1;
+    let mut same = true;
+    for (kind, code) in kinds[..count].iter().zip(&codes[..count]) {
+        same &= u16::from(*kind) == *code % 8;
     }
-    mark
+    same
 }
 
-// The first entry whose kind is not the one reported for its step; the number of entries if there is none.
-fn first_difference(kinds: &[u8], codes: &[u16], count: usize) -> usize
+// The first entry whose kind is not the one reported for its step; it is searched only if there is one.
+fn first_other_kind(kinds: &[u8], codes: &[u16], count: usize) -> Option<usize>
     requires count_in_bounds { count ≤ length kinds.now }
     requires count_in_bounds_2 { count ≤ length codes.now }
-    ensures { Lowest count (other_kind kinds.now codes.now) result }
+    ensures lowest { Lowest count (other_kind kinds.now codes.now) (or_end result count) }
+    ensures inside { IfSome result (λ place. place < count) }
 {
-    let mut k: usize = 0;
-    while k < count {
-        let kind = kinds[k] as u16;
-        if kind != codes[k] % 8 {
-            return k;
-        }
-        k += 1;
+    if all_same_kinds(kinds, codes, count) {
+        return None;
     }
-    k
-}
-
-// How many entries, from the first on, name the kinds that the run's loop reported. The first that does not is searched only if there is one.
-fn first_other_kind(kinds: &[u8], codes: &[u16], count: usize) -> usize
-    requires count_in_bounds { count ≤ length kinds.now }
-    requires count_in_bounds_2 { count ≤ length codes.now }
-    ensures { Lowest count (other_kind kinds.now codes.now) result }
-{
-    let mark = any_difference(kinds, codes, count);
-    if mark == 0 {
-        return count;
-    }
-    first_difference(kinds, codes, count)
+    (0..count).find(
+        |k|
+            requires { (k.now < length kinds.now) × (k.now < length codes.now) }
+        { u16::from(kinds[*k]) != codes[*k] % 8 },
+    )
 }
 
 fn answer_at(number: u32, place: usize) -> JournalReply
@@ -129,27 +105,11 @@ fn run_piece(
     );
 }
 
-// The result of a piece: where the next one starts and the thread of the entry before it; or, if stopped, the answer.
+// The result of a piece: where the next one starts and the thread of the entry before it; or the answer.
 #[derive(Clone, Copy)]
-pub struct Turn {
-    pub stopped: bool,
-    pub position: usize,
-    pub before: u16,
-    pub number: u32,
-    pub place: usize,
-}
-
-fn stopped_by(piece: Piece, number: u32, place: usize) -> Turn
-    ensures { result ≡ stop_of piece.position piece.before number place }
-{
-    let before = piece.before;
-    Turn {
-        stopped: true,
-        position: piece.position,
-        before,
-        number,
-        place,
-    }
+pub enum Turn {
+    Next { position: usize, before: u16 },
+    Stopped(JournalReply),
 }
 
 // The piece of a journal at a position: its entries are read, their threads stepped, their kinds compared. The borrowed arrays hold the state.
@@ -182,23 +142,19 @@ fn check_piece(
         tree, tails, nexts, statuses, rows, domains, peers, words, ticket, granted, threads, count,
         trace, codes,
     );
-    let same = first_other_kind(kinds, codes, count);
-    if same < count {
+    if let Some(same) = first_other_kind(kinds, codes, count) {
         let place = crate::reader::position_after(journal, position, before, same);
-        return stopped_by(piece, 26, place);
+        return Turn::Stopped(answer_at(Reason::OtherKind.number(), place));
     }
-    if piece.number != 0 {
-        return stopped_by(piece, piece.number, piece.position);
+    if let Some(reason) = piece.refused {
+        return Turn::Stopped(answer_at(reason.number(), piece.position));
     }
     if journal.len() <= piece.position {
-        return stopped_by(piece, 0, 0);
+        return Turn::Stopped(answer_at(0, 0));
     }
-    Turn {
-        stopped: false,
+    Turn::Next {
         position: piece.position,
         before: piece.before,
-        number: 0,
-        place: 0,
     }
 }
 
@@ -219,9 +175,9 @@ fn walk_entries(
     kinds: &mut [u8; 1024],
     trace: &mut [u16; 1024],
     codes: &mut [u16; 1024],
-) -> Turn
+) -> JournalReply
     requires { SoFar tree journal.now (lent_state tails.old nexts.old statuses.old rows.old domains.old peers.old words.old ticket.old granted.old) 0 0 }
-    ensures { replied (refusal result.number result.place) ≡ journal_answer tree journal.now }
+    ensures { result ≡ journal_answer tree journal.now }
 {
     let mut reader = Reader {
         journal,
@@ -229,7 +185,7 @@ fn walk_entries(
         before: 0,
     };
     loop {
-        let turn = check_piece(
+        match check_piece(
             tree,
             reader.journal,
             reader.position,
@@ -247,11 +203,12 @@ fn walk_entries(
             kinds,
             trace,
             codes,
-        );
-        reader.position = turn.position;
-        reader.before = turn.before;
-        if turn.stopped {
-            return turn;
+        ) {
+            Turn::Next { position, before } => {
+                reader.position = position;
+                reader.before = before;
+            }
+            Turn::Stopped(answer) => return answer,
         }
     }
 }
@@ -275,7 +232,7 @@ pub(crate) fn check_entries(tree: TreeWords, journal: &[u8]) -> JournalReply
     let mut kinds = [0u8; 1024];
     let mut trace = [0u16; 1024];
     let mut codes = [0u16; 1024];
-    let last = walk_entries(
+    walk_entries(
         tree,
         journal,
         &mut tails,
@@ -291,6 +248,5 @@ pub(crate) fn check_entries(tree: TreeWords, journal: &[u8]) -> JournalReply
         &mut kinds,
         &mut trace,
         &mut codes,
-    );
-    answer_at(last.number, last.place)
+    )
 }

@@ -4,6 +4,7 @@ ghost use Rattle.journal.specs.Reading.{entry_size, entry_thread, entry_kind, en
 ghost use Rattle.journal_call.specs.Reader.Stretches.{position_after, piece_of, ReadOn, StoppedBefore};
 
 use journal::Entry;
+use refusals::reasons::Reason;
 
 // A borrowed journal, a position in it, and the thread of the entry before the position.
 #[derive(Clone, Copy)]
@@ -13,19 +14,19 @@ pub struct Reader<'a> {
     pub before: u16,
 }
 
-// Consecutive entries: how many, the position after them, the thread of the last. If 25 or 12 refuses the entry at that position, this number, else 0.
+// Consecutive entries: how many, the position after them, the thread of the last; and why the entry at that position is refused, if it is.
 #[derive(Clone, Copy)]
 pub struct Piece {
     pub count: usize,
     pub position: usize,
     pub before: u16,
-    pub number: u32,
+    pub refused: Option<Reason>,
 }
 
 pub fn two_bytes(low: u8, high: u8) -> u16
     ensures { result ≡ low + 256 * high }
 {
-    (low as u16) + 256 * (high as u16)
+    u16::from_le_bytes([low, high])
 }
 
 fn size_of(bits: u8) -> usize
@@ -101,7 +102,7 @@ pub fn read_entry(journal: &[u8], position: usize, before: u16) -> Entry
         return Entry::Broken;
     }
     if 4 <= journal.len() - position {
-        return whole_entry(journal, position, before, casts::byte_index(bits));
+        return whole_entry(journal, position, before, usize::from(bits));
     }
     if journal.len() - position < size_of(bits) {
         return Entry::Broken;
@@ -130,18 +131,18 @@ pub fn read_entry(journal: &[u8], position: usize, before: u16) -> Entry
     }
 }
 
-pub fn stopped(count: usize, position: usize, before: u16, number: u32) -> Piece
-    ensures { result ≡ piece_of count position before number }
+pub fn stopped(count: usize, position: usize, before: u16, refused: Option<Reason>) -> Piece
+    ensures { result ≡ piece_of count position before refused }
 {
     Piece {
         count,
         position,
         before,
-        number,
+        refused,
     }
 }
 
-// Reads consecutive entries from a position on into the arrays from one index up to another; up to the journal's end or the first entry that 25 or 12 refuses.
+// Reads consecutive entries from a position on into the arrays from one index up to another; up to the journal's end or the first entry that is refused.
 pub fn read_some(
     journal: &[u8],
     position: usize,
@@ -158,27 +159,24 @@ pub fn read_some(
     ensures read_on { ReadOn known journal.now position before threads.old kinds.old from threads.new kinds.new result.count result.position result.before }
     ensures stopped_before { StoppedBefore known journal.now end result }
 {
-    let mut count = from;
     let mut at = position;
     let mut last = before;
-    while count < end {
-        let e = read_entry(journal, at, last);
-        match e {
+    for count in from..end {
+        match read_entry(journal, at, last) {
             Entry::Named { thread, kind, next } => {
-                if known <= (thread as u32) {
-                    return stopped(count, at, last, 12);
+                if known <= u32::from(thread) {
+                    return stopped(count, at, last, Some(Reason::BadEntry));
                 }
                 threads[count] = thread;
                 kinds[count] = kind;
                 at = next;
                 last = thread;
-                count += 1;
             }
-            Entry::Broken => return stopped(count, at, last, 25),
-            Entry::End => return stopped(count, at, last, 0),
+            Entry::Broken => return stopped(count, at, last, Some(Reason::JournalBroken)),
+            Entry::End => return stopped(count, at, last, None),
         }
     }
-    stopped(count, at, last, 0)
+    stopped(end, at, last, None)
 }
 
 // The position after a number of entries; if there are fewer, after the last of them.
@@ -187,10 +185,8 @@ pub fn position_after(journal: &[u8], position: usize, before: u16, count: usize
 {
     let mut at = position;
     let mut last = before;
-    let mut k: usize = 0;
-    while k < count {
-        let e = read_entry(journal, at, last);
-        match e {
+    for _passed in 0..count {
+        match read_entry(journal, at, last) {
             Entry::Named {
                 thread,
                 kind: _,
@@ -198,14 +194,8 @@ pub fn position_after(journal: &[u8], position: usize, before: u16, count: usize
             } => {
                 at = next;
                 last = thread;
-                k += 1;
             }
-            Entry::Broken => {
-                return at;
-            }
-            Entry::End => {
-                return at;
-            }
+            Entry::Broken | Entry::End => return at,
         }
     }
     at

@@ -17,14 +17,11 @@ fn adds_up(lengths: &[u32], entries: usize) -> bool
     ensures { result ≡ eqb (total lengths.now) entries }
 {
     let mut left = entries;
-    let mut k: usize = 0;
-    while k < lengths.len() {
-        let n = casts::number_index(lengths[k]);
-        if left < n {
-            return false;
+    for n in lengths {
+        match left.checked_sub(*n as usize) {
+            Some(rest) => left = rest,
+            None => return false,
         }
-        left -= n;
-        k += 1;
     }
     left == 0
 }

@@ -25,6 +25,7 @@ fn greatest_divisor(a: u64, b: u64) -> u64
 {
     let mut x = a;
     let mut y = b;
+    // Kept: how often it divides is not known in advance, so no `for` or iterator is plainer.
     while y != 0 {
         let rest = x % y;
         x = y;
@@ -71,26 +72,21 @@ pub fn waits_refusal_of(
 fn is_bad_number(threads: u32, at: u32, number: u64) -> bool
     ensures { result ≡ bad_number threads at number }
 {
-    if MOST < number {
-        return true;
-    }
-    if at < threads {
-        return false;
-    }
-    number != 0
+    MOST < number || threads <= at && number != 0
 }
 
 // The lowest index of such a number.
+#[tactic(auto, unfolding(waits::specs::Refusals::bad_under_way, model::specs::Trees::tree_of))]
 fn lowest_bad_number(tree: &TreeWords, under_way: &[u64; 256]) -> Option<u32>
-    ensures found { IfSome result (λ k. k < 256) }
     ensures lowest { Lowest 256 (bad_under_way (tree_of tree.now) under_way.now) (or_end result 256) }
+    ensures inside { IfSome result (λ place. place < 256) }
 {
-    for k in 0..256 {
-        if is_bad_number(tree.threads, k, under_way[k as usize]) {
-            return Some(k);
-        }
-    }
-    None
+    let threads = tree.threads;
+    (0..256u32).find(
+        |k|
+            requires { k.now < 256 }
+        { is_bad_number(threads, *k, under_way[*k as usize]) },
+    )
 }
 
 // The same tests, followed by 27 and 19.

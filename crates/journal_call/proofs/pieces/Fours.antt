@@ -34,30 +34,30 @@ module _ (bs : List ℕ) where
 
   module _ (p b known : ℕ) where
     pub four_moves :
-        b < known → p + 8 ≤ length bs → AllAre 2 (get_or bs p 0) (get_or bs (p + 2) 0) (get_or bs (p + 4) 0) (get_or bs (p + 6) 0) →
+        b < known → p + 8 ≤ length bs → AllAre 2 (get_or bs p 0 ∷ get_or bs (p + 2) 0 ∷ get_or bs (p + 4) 0 ∷ get_or bs (p + 6) 0 ∷ []) →
         Stretch known bs p b (b ∷ b ∷ b ∷ b ∷ []) (get_or bs (p + 1) 0 ∷ get_or bs (p + 3) 0 ∷ get_or bs (p + 5) 0 ∷ get_or bs (p + 7) 0 ∷ []) (p + 8) b
-    four_moves h g (w, x, y, z) =
-        one_read (move_at p b (p + 2) (p + 1) w (omega arith) (omega arith) (omega arith)) h
-        (one_read (move_at (p + 2) b (p + 4) (p + 3) x (omega arith) (omega arith) (omega arith)) h
-        (one_read (move_at (p + 4) b (p + 6) (p + 5) y (omega arith) (omega arith) (omega arith)) h
-        (one_read (move_at (p + 6) b (p + 8) (p + 7) z (omega arith) (omega arith) (omega arith)) h none_read)))
+    four_moves h g all =
+        one_read (move_at p b (p + 2) (p + 1) (all 0 (omega arith)) (omega arith) (omega arith) (omega arith)) h
+        (one_read (move_at (p + 2) b (p + 4) (p + 3) (all 1 (omega arith)) (omega arith) (omega arith) (omega arith)) h
+        (one_read (move_at (p + 4) b (p + 6) (p + 5) (all 2 (omega arith)) (omega arith) (omega arith) (omega arith)) h
+        (one_read (move_at (p + 6) b (p + 8) (p + 7) (all 3 (omega arith)) (omega arith) (omega arith) (omega arith)) h none_read)))
 
     pub four_stays :
-        b < known → p + 4 ≤ length bs → AllAre 0 (get_or bs p 0) (get_or bs (p + 1) 0) (get_or bs (p + 2) 0) (get_or bs (p + 3) 0) →
+        b < known → p + 4 ≤ length bs → AllAre 0 (get_or bs p 0 ∷ get_or bs (p + 1) 0 ∷ get_or bs (p + 2) 0 ∷ get_or bs (p + 3) 0 ∷ []) →
         Stretch known bs p b (b ∷ b ∷ b ∷ b ∷ []) (0 ∷ 0 ∷ 0 ∷ 0 ∷ []) (p + 4) b
-    four_stays h g (w, x, y, z) =
-        one_read (stay_at p b (p + 1) w (omega arith) (omega arith)) h
-        (one_read (stay_at (p + 1) b (p + 2) x (omega arith) (omega arith)) h
-        (one_read (stay_at (p + 2) b (p + 3) y (omega arith) (omega arith)) h
-        (one_read (stay_at (p + 3) b (p + 4) z (omega arith) (omega arith)) h none_read)))
+    four_stays h g all =
+        one_read (stay_at p b (p + 1) (all 0 (omega arith)) (omega arith) (omega arith)) h
+        (one_read (stay_at (p + 1) b (p + 2) (all 1 (omega arith)) (omega arith) (omega arith)) h
+        (one_read (stay_at (p + 2) b (p + 3) (all 2 (omega arith)) (omega arith) (omega arith)) h
+        (one_read (stay_at (p + 3) b (p + 4) (all 3 (omega arith)) (omega arith) (omega arith)) h none_read)))
 
     pub four_others :
-        p + 12 ≤ length bs → AllAre 1 (get_or bs p 0) (get_or bs (p + 3) 0) (get_or bs (p + 6) 0) (get_or bs (p + 9) 0) → (i₀ i₁ i₂ i₃ : ℕ) →
+        p + 12 ≤ length bs → AllAre 1 (get_or bs p 0 ∷ get_or bs (p + 3) 0 ∷ get_or bs (p + 6) 0 ∷ get_or bs (p + 9) 0 ∷ []) → (i₀ i₁ i₂ i₃ : ℕ) →
         i₀ ≡ get_or bs (p + 1) 0 + 256 * get_or bs (p + 2) 0 → i₁ ≡ get_or bs (p + 4) 0 + 256 * get_or bs (p + 5) 0 →
-        i₂ ≡ get_or bs (p + 7) 0 + 256 * get_or bs (p + 8) 0 → i₃ ≡ get_or bs (p + 10) 0 + 256 * get_or bs (p + 11) 0 → AllBelow known i₀ i₁ i₂ i₃ →
+        i₂ ≡ get_or bs (p + 7) 0 + 256 * get_or bs (p + 8) 0 → i₃ ≡ get_or bs (p + 10) 0 + 256 * get_or bs (p + 11) 0 → AllBelow known (i₀ ∷ i₁ ∷ i₂ ∷ i₃ ∷ []) →
         Stretch known bs p b (i₀ ∷ i₁ ∷ i₂ ∷ i₃ ∷ []) (0 ∷ 0 ∷ 0 ∷ 0 ∷ []) (p + 12) i₃
-    four_others g (w, x, y, z) i₀ i₁ i₂ i₃ e₀ e₁ e₂ e₃ (h₀, h₁, h₂, h₃) =
-        one_read (other_at p b (p + 3) (p + 1) (p + 2) i₀ w (omega arith) (omega arith) (omega arith) (omega arith) e₀) h₀
-        (one_read (other_at (p + 3) i₀ (p + 6) (p + 4) (p + 5) i₁ x (omega arith) (omega arith) (omega arith) (omega arith) e₁) h₁
-        (one_read (other_at (p + 6) i₁ (p + 9) (p + 7) (p + 8) i₂ y (omega arith) (omega arith) (omega arith) (omega arith) e₂) h₂
-        (one_read (other_at (p + 9) i₂ (p + 12) (p + 10) (p + 11) i₃ z (omega arith) (omega arith) (omega arith) (omega arith) e₃) h₃ none_read)))
+    four_others g all i₀ i₁ i₂ i₃ e₀ e₁ e₂ e₃ below =
+        one_read (other_at p b (p + 3) (p + 1) (p + 2) i₀ (all 0 (omega arith)) (omega arith) (omega arith) (omega arith) (omega arith) e₀) (below 0 (omega arith))
+        (one_read (other_at (p + 3) i₀ (p + 6) (p + 4) (p + 5) i₁ (all 1 (omega arith)) (omega arith) (omega arith) (omega arith) (omega arith) e₁) (below 1 (omega arith))
+        (one_read (other_at (p + 6) i₁ (p + 9) (p + 7) (p + 8) i₂ (all 2 (omega arith)) (omega arith) (omega arith) (omega arith) (omega arith) e₂) (below 2 (omega arith))
+        (one_read (other_at (p + 9) i₂ (p + 12) (p + 10) (p + 11) i₃ (all 3 (omega arith)) (omega arith) (omega arith) (omega arith) (omega arith) e₃) (below 3 (omega arith)) none_read)))

@@ -1,14 +1,22 @@
 -- Consecutive entries of a journal.
 use mathlib.Core.Path.{◌≡◌, refl, sym, ap, ◌∙◌, subst}
 use mathlib.Core.List.{List, [], ◌∷◌, ◌++◌}
+use mathlib.Core.Logic.{◌⊎◌, ⊎_elim}
+use Rattle.std.specs.Prelude.{Option, Some, None}
 use Prim.Native.Nat.{ℕ, zero, suc, ◌+◌, ◌≤◌, ◌<◌}
 use native.Mathlib.Omega.{arith}
 use lib.ListN.{length, set, length-append}
 use lib.Seq.{sets, length-sets}
+use Rattle.journal.specs.declared.Entry.{Entry}
 use Rattle.journal.specs.declared.Entry.TheVariants.{Named, Broken, End}
 use Rattle.journal.specs.Reading.{entry_at}
+use Rattle.refusals.specs.declared.reasons.Reason.TheVariants.{BadEntry, JournalBroken}
 use Rattle.journal_call.specs.Reader.Stretches.{position_by, position_after, Stretch, none_read, one_read, for_room, for_broken, for_thread, piece_of, ReadOn, StoppedBefore}
 use Rattle.journal.proofs.Facts.{at_end}
+
+-- a reason is not none
+some_not_none : {A : Type 0} {x : A} → Some x ≡ None → ⊥
+some_not_none e = cc
 
 -- CONSECUTIVE STRETCHES
 stretch_join :
@@ -82,16 +90,16 @@ module _ (known : ℕ) (bs : List ℕ) where
         subst (λ xs. ReadOn known bs p b xs ks₀ from is' ks' m e l) same_threads (subst (λ ys. ReadOn known bs p b is ys from is' ks' m e l) same_kinds r)
 
   -- WHY READING STOPS, by the entry at the position
-  pub ended : (n p b end : ℕ) → entry_at bs p b ≡ End → StoppedBefore known bs end (piece_of n p b 0)
+  pub ended : (n p b end : ℕ) → entry_at bs p b ≡ End → StoppedBefore known bs end (piece_of n p b None)
   ended n p b end e = record { stops = for_room; full = λ z l. absurd (omega (arith, at_end bs p b e)) }
 
-  pub broken : (n p b end : ℕ) → entry_at bs p b ≡ Broken → StoppedBefore known bs end (piece_of n p b 25)
-  broken n p b end e = record { stops = for_broken e; full = λ z. absurd (omega arith) }
+  pub broken : (n p b end : ℕ) → entry_at bs p b ≡ Broken → StoppedBefore known bs end (piece_of n p b (Some JournalBroken))
+  broken n p b end e = record { stops = for_broken e; full = λ z. absurd (some_not_none z) }
 
-  pub unknown : (n p b end i k next : ℕ) → entry_at bs p b ≡ Named i k next → known ≤ i → StoppedBefore known bs end (piece_of n p b 12)
-  unknown n p b end i k next e h = record { stops = for_thread e h; full = λ z. absurd (omega arith) }
+  pub unknown : (n p b end i k next : ℕ) → entry_at bs p b ≡ Named i k next → known ≤ i → StoppedBefore known bs end (piece_of n p b (Some BadEntry))
+  unknown n p b end i k next e h = record { stops = for_thread e h; full = λ z. absurd (some_not_none z) }
 
-  pub reached : (n p b end : ℕ) → end ≤ n → StoppedBefore known bs end (piece_of n p b 0)
+  pub reached : (n p b end : ℕ) → end ≤ n → StoppedBefore known bs end (piece_of n p b None)
   reached n p b end h = record { stops = for_room; full = λ z l. h }
 
 -- POSITIONS after one more entry, or none
@@ -100,15 +108,18 @@ pub position_next :
 unfolding position_after
 position_next n bs p b i k next e = ap (λ x. position_by x p (λ q j. position_after n bs q j)) e
 
-pub position_broken : (n : ℕ) (bs : List ℕ) (p b : ℕ) → entry_at bs p b ≡ Broken → position_after n bs p b ≡ p
+position_broken : (n : ℕ) (bs : List ℕ) (p b : ℕ) → entry_at bs p b ≡ Broken → position_after n bs p b ≡ p
 unfolding position_after
 position_broken zero bs p b e = refl
 position_broken (suc n) bs p b e = ap (λ x. position_by x p (λ q j. position_after n bs q j)) e
 
-pub position_end : (n : ℕ) (bs : List ℕ) (p b : ℕ) → entry_at bs p b ≡ End → position_after n bs p b ≡ p
+position_end : (n : ℕ) (bs : List ℕ) (p b : ℕ) → entry_at bs p b ≡ End → position_after n bs p b ≡ p
 unfolding position_after
 position_end zero bs p b e = refl
 position_end (suc n) bs p b e = ap (λ x. position_by x p (λ q j. position_after n bs q j)) e
+
+pub position_stopped : (n : ℕ) (bs : List ℕ) (p b : ℕ) (e : Entry) → e ≡ entry_at bs p b → (e ≡ Broken) ⊎ (e ≡ End) → position_after n bs p b ≡ p
+position_stopped n bs p b e f z = ⊎_elim (λ y. position_broken n bs p b (sym f ∙ y)) (λ y. position_end n bs p b (sym f ∙ y)) z
 
 pub position_none : (n : ℕ) (bs : List ℕ) (p b : ℕ) → n ≡ 0 → position_after n bs p b ≡ p
 unfolding position_after

@@ -2,13 +2,13 @@
 use mathlib.Core.Path.{◌≡◌, sym, ap, ◌∙◌}
 use mathlib.Core.Bool.{Bool, true, false, ◌&&◌, not}
 use mathlib.Core.List.{List}
-use Prim.Native.Nat.{ℕ, ◌+◌, ◌/◌, ◌%◌, ◌≤◌, ◌<◌, max}
+use Prim.Native.Nat.{ℕ, ◌+◌, ◌/◌, ◌%◌, ◌≤◌, ◌<◌}
 use native.Mathlib.Omega.{arith}
 use native.Mathlib.Decide.{ℕ_discrete}
 use lib.Dec.{eqb, leb}
 use lib.ListN.{length, get_or, set, length-set}
 use lib.Seq.{get_or-set_same, get_or-set_other}
-use borrow.Author.Tests.{eq-eqb, ne_eqb, le-leb, lt-leb}
+use borrow.Author.Tests.{eq-eqb, ne_eqb, lt-leb}
 use Rattle.rows.specs.Common.Standing.{row_domain}
 use Rattle.journal_call.specs.Kinds.{AllSameKinds}
 use Rattle.journal_call.specs.StepCheck.Stretches.{unknown, same_kind, same_domain, differs, NoneLarger, HomesOf, AllSameDomains, AllSame}
@@ -29,22 +29,11 @@ module _ (hs is ks ds cs : List ℕ) (j : ℕ) where
     both_same z =
         rw (eq-eqb (get_or ks j 0) (get_or cs j 0 % 8) k, eq-eqb (get_or ds j 0) (row_domain (get_or hs (get_or is j 0) 0) ((get_or cs j 0 / 8) % 16) (get_or cs j 0 / 128)) (sym f ∙ z ∙ same))
 
--- a thread compared with the number of threads
-pub not_below : (n v x : ℕ) → v ≡ x → n ≤ v → leb n x ≡ true
-not_below n v x e h = le-leb n x (omega arith)
-
-pub is_below : (n v x : ℕ) → v ≡ x → v < n → leb n x ≡ false
-is_below n v x e h = lt-leb n x (omega arith)
-
 -- if the largest thread is known, all are
 pub known_below : (is : List ℕ) (n most v : ℕ) → NoneLarger is (length is) most → v ≡ most → v < n → (j : ℕ) → j < length is → unknown n is j ≡ false
 known_below is n most v h e l j k = let at_most = h j k in lt-leb n (get_or is j 0) (omega (arith, at_most, e, l))
 
 -- ONE MORE PLACE
-
--- the largest thread so far
-pub one_larger : (is : List ℕ) (n most next : ℕ) → NoneLarger is n most → next ≡ max most (get_or is n 0) → NoneLarger is (n + 1) next
-one_larger is n most next h e j l = elim (ℕ_discrete j n) [ yes q ↦ rw q (omega (arith, e)) | no q ↦ (let z = h j (omega arith) in omega (arith, e, z)) ]
 
 -- the homes so far
 pub no_home : (hs is fs : List ℕ) → length fs ≡ 1024 → HomesOf hs is 0 fs

@@ -21,12 +21,18 @@ use Rattle.model.proofs.Laws.Refusals.{accepted_number, lowest, refusal_law}
 use Rattle.model.proofs.Laws.Runs.{steps_take}
 use Rattle.refusals.specs.declared.Refusal.{Refusal}
 use Rattle.refusals.specs.Arrays.{refusal_words}
-use Rattle.refusals.specs.Lowest.{Lowest}
+use Rattle.std.specs.Prelude.{Option, Some, None, unwrap_or}
+use Rattle.refusals.specs.Lowest.{Lowest, or_end}
 use Rattle.refusals.proofs.Scanning.{test_hit}
 use Rattle.refusals.proofs.RunTests.{refusal_words_not, refusal_words_zero}
 use Rattle.journal.specs.StepCheck.Laws.{after_first}
 use Rattle.journal.proofs.step_check.Checking.{above_at, number_12, number_19}
 use Rattle.journal_call.specs.StepCheck.Stretches.{Ready, unknown, Stretch}
+
+-- the number of places before the one that a scan returns, which is all if it returns none
+pub known_front : (n : ℕ) (bad : ℕ → Bool) (found : Option ℕ) → Lowest n bad (or_end found n) → (m : ℕ) → m ≡ unwrap_or found n → Lowest n bad m
+known_front n bad (Some p) L m e = rw e L
+known_front n bad None L m e = rw e L
 
 -- if each entry is a thread of the tree, all are
 pub all_known : (t : Tree) (is : List ℕ) → ((j : ℕ) → j < length is → get_or is j 0 < t.threads) → AllThreads t is

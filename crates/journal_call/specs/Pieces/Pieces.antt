@@ -1,22 +1,16 @@
 -- Pieces of a journal, and entries that are read several at a time: the definitions that their contracts use.
-use Rattle.std.specs.Prelude.{◌≡◌, List, ℕ, ◌+◌, ◌*◌, ◌≤◌, ◌<◌, length, get_or, take}
+use Rattle.std.specs.Prelude.{◌≡◌, List, ℕ, ◌+◌, ◌*◌, ◌≤◌, ◌<◌, length, get_or, take, None}
 use Rattle.journal.specs.Reading.{entry_size}
 use Rattle.journal_call.specs.declared.reader.Piece.{Piece}
 use Rattle.journal_call.specs.Reader.Stretches.{Stretch, Stops}
 
--- the smaller of two numbers
-pub record Smaller (a b smaller : ℕ) : Type 0 where
-  pub within_first : smaller ≤ a
-  pub within_second : smaller ≤ b
-  pub largest : (n : ℕ) → n ≤ a → n ≤ b → n ≤ smaller
+-- each of these numbers is equal to one number
+abbrev pub AllAre : (number : ℕ) → (numbers : List ℕ) → Type 0
+AllAre n ns = (j : ℕ) → j < length ns → get_or ns j 0 ≡ n
 
--- four numbers are equal to one number
-abbrev pub AllAre : (number a b c d : ℕ) → Type 0
-AllAre n a b c d = (a ≡ n) × (b ≡ n) × (c ≡ n) × (d ≡ n)
-
--- four numbers are below one number
-abbrev pub AllBelow : (number a b c d : ℕ) → Type 0
-AllBelow n a b c d = (a < n) × (b < n) × (c < n) × (d < n)
+-- each of these numbers is below one number
+abbrev pub AllBelow : (number : ℕ) → (numbers : List ℕ) → Type 0
+AllBelow n ns = (j : ℕ) → j < length ns → get_or ns j 0 < n
 
 -- enough bytes are left, and both arrays can take this many more entries
 pub record Fits (size number bytes position threads kinds count : ℕ) : Type 0 where
@@ -33,10 +27,10 @@ pub record SizesFrom (bytes : List ℕ) (position count : ℕ) (sizes : List ℕ
   pub room : length sizes ≡ 128
   pub size : (k : ℕ) → k < count → get_or bytes (position + k) 0 ≤ 3 → get_or sizes k 0 ≡ entry_size (get_or bytes (position + k) 0)
 
--- a piece of the journal, with its threads and kinds at the front of two arrays; it stops without a number if the arrays are full or the journal ends
+-- a piece of the journal, with its threads and kinds at the front of two arrays; it stops without a reason if the arrays are full or the journal ends
 pub record PieceRead (known : ℕ) (bytes : List ℕ) (position before : ℕ) (threads kinds : List ℕ) (piece : Piece) : Type 0 where
   pub threads_fit : piece.count ≤ length threads
   pub kinds_fit : piece.count ≤ length kinds
   pub read : Stretch known bytes position before (take piece.count threads) (take piece.count kinds) piece.position piece.before
-  pub stops : Stops known bytes piece.position piece.before piece.number
-  pub full : piece.number ≡ 0 → piece.position < length bytes → (room : ℕ) → room ≤ length threads → room ≤ length kinds → room ≤ piece.count
+  pub stops : Stops known bytes piece.position piece.before piece.refused
+  pub full : piece.refused ≡ None → piece.position < length bytes → (room : ℕ) → room ≤ length threads → room ≤ length kinds → room ≤ piece.count

@@ -1,9 +1,11 @@
 -- Consecutive entries of a journal: the definitions that the contracts of the reader and of its callers use.
-use Rattle.std.specs.Prelude.{◌≡◌, List, [], ◌∷◌, ℕ, zero, suc, ◌+◌, ◌≤◌, ◌<◌, length}
+use Rattle.std.specs.Prelude.{◌≡◌, List, [], ◌∷◌, ℕ, zero, suc, ◌+◌, ◌≤◌, ◌<◌, length, Option, Some, None}
 use Rattle.std.proofs.lemmas.List.Edits.{sets}
 use Rattle.journal.specs.declared.Entry.{Entry}
 use Rattle.journal.specs.declared.Entry.TheVariants.{Named, Broken, End}
 use Rattle.journal.specs.Reading.{entry_at}
+use Rattle.refusals.specs.declared.reasons.Reason.{Reason}
+use Rattle.refusals.specs.declared.reasons.Reason.TheVariants.{BadEntry, JournalBroken}
 use Rattle.journal_call.specs.declared.reader.Piece.{Piece}
 
 -- what follows an entry that is named; otherwise the position itself
@@ -24,11 +26,11 @@ pub data Stretch (known : ℕ) (bytes : List ℕ) : (position before : ℕ) → 
       {p b i k next end last : ℕ} {is ks : List ℕ} → entry_at bytes p b ≡ Named i k next → i < known →
       Stretch known bytes next i is ks end last → Stretch known bytes p b (i ∷ is) (k ∷ ks) end last
 
--- why reading stops: 0 if there is no more space; 25 if the entry at the position is cut off or has another bit set; 12 if its thread is unknown
-pub data Stops (known : ℕ) (bytes : List ℕ) (position before : ℕ) : (number : ℕ) → Type 0 where
-  for_room : Stops known bytes position before 0
-  for_broken : entry_at bytes position before ≡ Broken → Stops known bytes position before 25
-  for_thread : {i k next : ℕ} → entry_at bytes position before ≡ Named i k next → known ≤ i → Stops known bytes position before 12
+-- why reading stops: for no reason if there is no more space; the entry at the position is cut off or has another bit set; or its thread is unknown
+pub data Stops (known : ℕ) (bytes : List ℕ) (position before : ℕ) : (refused : Option Reason) → Type 0 where
+  for_room : Stops known bytes position before None
+  for_broken : entry_at bytes position before ≡ Broken → Stops known bytes position before (Some JournalBroken)
+  for_thread : {i k next : ℕ} → entry_at bytes position before ≡ Named i k next → known ≤ i → Stops known bytes position before (Some BadEntry)
 
 -- consecutive entries read from a position on; their threads and kinds are stored in two arrays from an index on
 pub record ReadOn (known : ℕ) (bytes : List ℕ) (position before : ℕ) (threads₀ kinds₀ : List ℕ) (from : ℕ) (threads kinds : List ℕ) (count end last : ℕ) : Type 0 where
@@ -42,10 +44,10 @@ pub record ReadOn (known : ℕ) (bytes : List ℕ) (position before : ℕ) (thre
   pub kinds_fit : count ≤ length kinds₀
 
 -- a piece with these parts
-abbrev pub piece_of : (count position before number : ℕ) → Piece
-piece_of n p b m = record { count = n; position = p; before = b; number = m }
+abbrev pub piece_of : (count position before : ℕ) → (refused : Option Reason) → Piece
+piece_of n p b r = record { count = n; position = p; before = b; refused = r }
 
--- reading stopped after an entry, not before the index is reached unless a number says why or the journal ends
+-- reading stopped after an entry, not before the index is reached unless a reason says why or the journal ends
 pub record StoppedBefore (known : ℕ) (bytes : List ℕ) (index : ℕ) (piece : Piece) : Type 0 where
-  pub stops : Stops known bytes piece.position piece.before piece.number
-  pub full : piece.number ≡ 0 → piece.position < length bytes → index ≤ piece.count
+  pub stops : Stops known bytes piece.position piece.before piece.refused
+  pub full : piece.refused ≡ None → piece.position < length bytes → index ≤ piece.count

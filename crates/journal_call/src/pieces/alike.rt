@@ -1,82 +1,29 @@
 // Four entries at a time, if four in a row have the same bit map: one thread alone, a thread that waits, threads that wait in turn. Their sizes are then known in advance, so that reading one does not depend on the one before.
-ghost use Rattle.std.specs.Prelude.{◌≡◌, true, [], ◌∷◌, ◌+◌, ◌≤◌, ◌<◌, length};
+ghost use Rattle.std.specs.Prelude.{◌≡◌, true, ◌+◌, ◌*◌, ◌≤◌, ◌<◌, length};
 ghost use Rattle.std.proofs.lemmas.List.Edits.{sets};
 ghost use Rattle.journal_call.specs.Reader.Stretches.{ReadOn};
 ghost use Rattle.journal_call.specs.Pieces.Pieces.{AllAre, AllBelow, Fits, KindsGiven};
 
-use crate::reader::Piece;
+use crate::reader::{Piece, stopped, two_bytes};
 
 // Whether four bytes are the same bit map, by a single comparison: separate comparisons would be unpredictable branches.
-fn all_are(bits: u8, a: u8, b: u8, c: u8, d: u8) -> bool
-    ensures { result ≡ true → AllAre bits a b c d }
+fn all_are(bits: u8, four: [u8; 4]) -> bool
+    ensures { result ≡ true → AllAre bits four }
 {
-    let word = (a as u32) + 256 * (b as u32) + 65536 * (c as u32) + 16777216 * (d as u32);
-    word == 16843009 * (bits as u32)
+    u32::from_le_bytes(four) == u32::from_le_bytes([bits; 4])
 }
 
-fn all_known(known: u32, a: u16, b: u16, c: u16, d: u16) -> bool
-    ensures { result ≡ true → AllBelow known a b c d }
+fn all_known(known: u32, threads: &[u16; 4]) -> bool
+    ensures { result ≡ true → AllBelow known threads.now }
 {
-    if known <= (a as u32) {
-        return false;
-    }
-    if known <= (b as u32) {
-        return false;
-    }
-    if known <= (c as u32) {
-        return false;
-    }
-    (d as u32) < known
+    threads.iter().all(|thread| u32::from(*thread) < known)
 }
 
-// Whether enough bytes are left, and both arrays can take this many more entries.
-fn fits(
-    bytes: usize,
-    position: usize,
-    threads: usize,
-    kinds: usize,
-    count: usize,
-    size: usize,
-    number: usize,
-) -> bool
-    ensures { result ≡ true → Fits size number bytes position threads kinds count }
+fn put_four<T: Copy>(elements: &mut [T], from: usize, four: &[T; 4])
+    requires { from + 4 ≤ length elements.old }
+    ensures { elements.new ≡ sets elements.old from four.now }
 {
-    if bytes <= position {
-        return false;
-    }
-    if bytes - position < size {
-        return false;
-    }
-    if threads <= count {
-        return false;
-    }
-    if threads - count < number {
-        return false;
-    }
-    if kinds <= count {
-        return false;
-    }
-    number <= kinds - count
-}
-
-fn put_threads(threads: &mut [u16], count: usize, a: u16, b: u16, c: u16, d: u16)
-    requires { count + 4 ≤ length threads.old }
-    ensures { threads.new ≡ sets threads.old count (a ∷ b ∷ c ∷ d ∷ []) }
-{
-    threads[count] = a;
-    threads[count + 1] = b;
-    threads[count + 2] = c;
-    threads[count + 3] = d;
-}
-
-fn put_kinds(kinds: &mut [u8], count: usize, a: u8, b: u8, c: u8, d: u8)
-    requires { count + 4 ≤ length kinds.old }
-    ensures { kinds.new ≡ sets kinds.old count (a ∷ b ∷ c ∷ d ∷ []) }
-{
-    kinds[count] = a;
-    kinds[count + 1] = b;
-    kinds[count + 2] = c;
-    kinds[count + 3] = d;
+    elements[from..from + 4].copy_from_slice(four);
 }
 
 // Four entries of the thread before that name a kind, or four of it that do not.
@@ -95,31 +42,35 @@ fn read_same(
 {
     if all_are(
         2,
-        journal[position],
-        journal[position + 2],
-        journal[position + 4],
-        journal[position + 6],
+        [
+            journal[position],
+            journal[position + 2],
+            journal[position + 4],
+            journal[position + 6],
+        ],
     ) {
         let a = journal[position + 1];
         let b = journal[position + 3];
         let c = journal[position + 5];
         let d = journal[position + 7];
-        put_threads(threads, count, before, before, before, before);
-        put_kinds(kinds, count, a, b, c, d);
-        return crate::reader::stopped(count + 4, position + 8, before, 0);
+        put_four(threads, count, &[before; 4]);
+        put_four(kinds, count, &[a, b, c, d]);
+        return stopped(count + 4, position + 8, before, None);
     }
     if all_are(
         0,
-        journal[position],
-        journal[position + 1],
-        journal[position + 2],
-        journal[position + 3],
+        [
+            journal[position],
+            journal[position + 1],
+            journal[position + 2],
+            journal[position + 3],
+        ],
     ) {
-        put_threads(threads, count, before, before, before, before);
-        put_kinds(kinds, count, 0, 0, 0, 0);
-        return crate::reader::stopped(count + 4, position + 4, before, 0);
+        put_four(threads, count, &[before; 4]);
+        put_four(kinds, count, &[0; 4]);
+        return stopped(count + 4, position + 4, before, None);
     }
-    crate::reader::stopped(count, position, before, 0)
+    stopped(count, position, before, None)
 }
 
 // Four entries that name threads and no kind.
@@ -137,23 +88,25 @@ fn read_others(
 {
     if all_are(
         1,
-        journal[position],
-        journal[position + 3],
-        journal[position + 6],
-        journal[position + 9],
+        [
+            journal[position],
+            journal[position + 3],
+            journal[position + 6],
+            journal[position + 9],
+        ],
     ) {
-        let a = crate::reader::two_bytes(journal[position + 1], journal[position + 2]);
-        let b = crate::reader::two_bytes(journal[position + 4], journal[position + 5]);
-        let c = crate::reader::two_bytes(journal[position + 7], journal[position + 8]);
-        let d = crate::reader::two_bytes(journal[position + 10], journal[position + 11]);
-        if all_known(known, a, b, c, d) {
-            put_threads(threads, count, a, b, c, d);
-            put_kinds(kinds, count, 0, 0, 0, 0);
-            return crate::reader::stopped(count + 4, position + 12, d, 0);
+        let a = two_bytes(journal[position + 1], journal[position + 2]);
+        let b = two_bytes(journal[position + 4], journal[position + 5]);
+        let c = two_bytes(journal[position + 7], journal[position + 8]);
+        let d = two_bytes(journal[position + 10], journal[position + 11]);
+        let four = [a, b, c, d];
+        if all_known(known, &four) {
+            put_four(threads, count, &four);
+            put_four(kinds, count, &[0; 4]);
+            return stopped(count + 4, position + 12, d, None);
         }
-        return crate::reader::stopped(count, position, before, 0);
     }
-    crate::reader::stopped(count, position, before, 0)
+    stopped(count, position, before, None)
 }
 
 // Whether sixteen entries of two bytes each have the bit map for a kind only.
@@ -161,12 +114,10 @@ fn kinds_given(journal: &[u8], position: usize) -> bool
     requires { position + 34 ≤ length journal.now }
     ensures { result ≡ true → KindsGiven 16 journal.now position }
 {
-    let mut k: usize = 0;
-    while k < 16 {
+    for k in 0..16usize {
         if journal[position + 2 * k] != 2 {
             return false;
         }
-        k += 1;
     }
     true
 }
@@ -186,15 +137,13 @@ fn read_sixteen(
     ensures { ReadOn known journal.now position before threads.old kinds.old count threads.new kinds.new result.count result.position result.before }
 {
     if !kinds_given(journal, position) {
-        return crate::reader::stopped(count, position, before, 0);
+        return stopped(count, position, before, None);
     }
-    let mut k: usize = 0;
-    while k < 16 {
+    for k in 0..16usize {
         threads[count + k] = before;
         kinds[count + k] = journal[position + (2 * k + 1)];
-        k += 1;
     }
-    crate::reader::stopped(count + 16, position + 32, before, 0)
+    stopped(count + 16, position + 32, before, None)
 }
 
 // Four such entries, stored from an index on, or none.
@@ -211,26 +160,21 @@ fn read_four(
     requires count_in_bounds_2 { count ≤ length kinds.old }
     ensures { ReadOn known journal.now position before threads.old kinds.old count threads.new kinds.new result.count result.position result.before }
 {
-    if known <= (before as u32) {
-        return crate::reader::stopped(count, position, before, 0);
+    if known <= u32::from(before) {
+        return stopped(count, position, before, None);
     }
     // Twelve bytes are enough for four entries of each bit map that is tested.
-    if fits(
-        journal.len(),
-        position,
-        threads.len(),
-        kinds.len(),
-        count,
-        12,
-        4,
-    ) {
+    if 12 <= journal.len().saturating_sub(position)
+        && 4 <= threads.len() - count
+        && 4 <= kinds.len() - count
+    {
         let same = read_same(journal, position, before, known, threads, kinds, count);
         if count < same.count {
             return same;
         }
         return read_others(journal, position, before, known, threads, kinds, count);
     }
-    crate::reader::stopped(count, position, before, 0)
+    stopped(count, position, before, None)
 }
 
 // Sixteen such entries if enough bytes and elements are left, or none.
@@ -247,22 +191,17 @@ fn read_many(
     requires count_in_bounds_2 { count ≤ length kinds.old }
     ensures { ReadOn known journal.now position before threads.old kinds.old count threads.new kinds.new result.count result.position result.before }
 {
-    if known <= (before as u32) {
-        return crate::reader::stopped(count, position, before, 0);
+    if known <= u32::from(before) {
+        return stopped(count, position, before, None);
     }
     // Thirty-four bytes are enough for sixteen entries of two bytes and two more bytes, so that the last can be read like any entry.
-    if fits(
-        journal.len(),
-        position,
-        threads.len(),
-        kinds.len(),
-        count,
-        34,
-        16,
-    ) {
+    if 34 <= journal.len().saturating_sub(position)
+        && 16 <= threads.len() - count
+        && 16 <= kinds.len() - count
+    {
         return read_sixteen(journal, position, before, known, threads, kinds, count);
     }
-    crate::reader::stopped(count, position, before, 0)
+    stopped(count, position, before, None)
 }
 
 // Sixteen or four entries with the same bit map, stored from an index on, or none. Four are read at only one place, so that the compiler inlines it there.

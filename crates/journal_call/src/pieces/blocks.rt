@@ -4,7 +4,8 @@ ghost use Rattle.journal.specs.Reading.{entry_size};
 ghost use Rattle.journal_call.specs.Reader.Stretches.{ReadOn, StoppedBefore};
 ghost use Rattle.journal_call.specs.Pieces.Pieces.{SizesFrom};
 
-use crate::reader::Piece;
+use crate::reader::{Piece, stopped};
+use refusals::reasons::Reason;
 
 // The size of an entry with this byte as its bit map; any number if the byte is no bit map.
 fn size_by(byte: u8) -> u8
@@ -18,15 +19,13 @@ fn sizes_from(journal: &[u8], position: usize) -> [u8; 128]
     ensures { SizesFrom journal.now position 128 result }
 {
     let mut sizes = [0u8; 128];
-    let mut k: usize = 0;
-    while k < 128 {
+    for k in 0..128usize {
         sizes[k] = size_by(journal[position + k]);
-        k += 1;
     }
     sizes
 }
 
-// Reads entries from a position on into the arrays from one index up to another, or up to the first entry that 25 or 12 refuses.
+// Reads entries from a position on into the arrays from one index up to another, or up to the first entry that is refused.
 pub(crate) fn read_block(
     journal: &[u8],
     position: usize,
@@ -45,25 +44,23 @@ pub(crate) fn read_block(
     ensures stopped_before { StoppedBefore known journal.now end result }
 {
     let sizes = sizes_from(journal, position);
-    let mut count = from;
     let mut passed: usize = 0;
     let mut last = before;
-    while count < end {
+    for count in from..end {
         let at = position + passed;
         let bits = journal[at];
         if 3 < bits {
-            return crate::reader::stopped(count, at, last, 25);
+            return stopped(count, at, last, Some(Reason::JournalBroken));
         }
-        let map = casts::byte_index(bits);
+        let map = usize::from(bits);
         let thread = crate::reader::thread_at(journal, at, last, map);
-        if known <= (thread as u32) {
-            return crate::reader::stopped(count, at, last, 12);
+        if known <= u32::from(thread) {
+            return stopped(count, at, last, Some(Reason::BadEntry));
         }
         threads[count] = thread;
         kinds[count] = crate::reader::kind_at(journal, at, map);
-        passed += casts::byte_index(sizes[passed]);
+        passed += usize::from(sizes[passed]);
         last = thread;
-        count += 1;
     }
-    crate::reader::stopped(count, position + passed, last, 0)
+    stopped(end, position + passed, last, None)
 }

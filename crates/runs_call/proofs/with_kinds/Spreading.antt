@@ -17,10 +17,10 @@ module _ (homes schedule before : List ℕ) where
 
   -- one more step, from the last to the first
   pub spread_one :
-      (rows : List ℕ) (k : ℕ) → k < length schedule → 2 * length schedule ≤ length before → Spread homes schedule before (k + 1) rows → (i domain : ℕ) → i ≡ get_or schedule k 0 →
-      domain ≡ row_domain (get_or homes i 0) ((get_or rows k 0 / 8) % 16) (get_or rows k 0 / 128) →
+      (rows : List ℕ) (k : ℕ) → k < length schedule → 2 * length schedule ≤ length before → Spread homes schedule before (k + 1) rows → (i home domain : ℕ) → i ≡ get_or schedule k 0 →
+      home ≡ get_or homes i 0 → domain ≡ row_domain home ((get_or rows k 0 / 8) % 16) (get_or rows k 0 / 128) →
       Spread homes schedule before k (set (set rows (2 * k) (get_or rows k 0 % 8)) (2 * k + 1) domain)
-  spread_one rows k h room g i domain at e =
+  spread_one rows k h room g i home domain at there e =
       let code = get_or rows k 0 in
       let same : code ≡ get_or before k 0 = g.ahead k (omega arith) in
       let once = set rows (2 * k) (code % 8) in
@@ -43,7 +43,7 @@ module _ (homes schedule before : List ℕ) where
               | yes z ↦
                   rw z
                   (get_or-set_same once (2 * k + 1) domain 0 (omega (arith, l, g.long))
-                  ∙ e ∙ ap (λ v. row_domain (get_or homes i 0) ((v / 8) % 16) (v / 128)) same ∙ ap (λ v. row_domain (get_or homes v 0) ((get_or before k 0 / 8) % 16) (get_or before k 0 / 128)) at)
+                  ∙ e ∙ ap (λ v. row_domain v ((code / 8) % 16) (code / 128)) there ∙ ap (λ v. row_domain (get_or homes i 0) ((v / 8) % 16) (v / 128)) same ∙ ap (λ v. row_domain (get_or homes v 0) ((get_or before k 0 / 8) % 16) (get_or before k 0 / 128)) at)
               | no z ↦ other (2 * j + 1) (λ y. absurd (omega arith)) (λ y. z (omega arith)) ∙ g.domain j (omega arith) b
             ];
         rest = λ j a. other j (λ z. absurd (omega arith)) (λ z. absurd (omega arith)) ∙ g.rest j a;

@@ -6,6 +6,7 @@ use Prim.Native.Nat.{ℕ, ◌+◌, ◌*◌, ◌/◌, ◌%◌, ◌≤◌, ◌<◌
 use native.Mathlib.Omega.{arith}
 use native.Mathlib.Decide.{ℕ_discrete}
 use lib.Dec.{eqb}
+use mir.Val.{bool_byte as from_bool}
 use lib.ListN.{get_or, length, take, set}
 use lib.Seq.{take_all}
 use borrow.Author.Tests.{eq-eqb, ne_eqb, lt-ltb, le-leb}
@@ -24,6 +25,11 @@ use Rattle.rows.specs.Common.Standing.{is_entry_number}
 use Rattle.lock.specs.Steps.Running.{step_code}
 use Rattle.runs_call.specs.WithWaits.Waiting.{ticket_home, mark_at, Fits, Counting, Countable, Counted}
 use Rattle.lock.proofs.steps.SoFar.{next_step, thread_at, below, kind_small, entry_number, at_most}
+
+-- a test as a number
+pub one_if : (b : Bool) → from_bool b ≡ cond b 1 0
+one_if true = refl
+one_if false = refl
 
 pub mark_fits : (b : Bool) (n m : ℕ) → m ≤ n + 1 → mark_with b n m ≤ n + 1
 mark_fits true n m h = omega arith

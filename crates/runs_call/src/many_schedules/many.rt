@@ -13,14 +13,16 @@ fn put_row(rows: &mut [u32], at: usize, number: u32, place: u32, counts: Counts)
     requires { at + 8 ≤ length rows.old }
     ensures { rows.new ≡ sets rows.old at (row_numbers number place counts) }
 {
-    rows[at] = number;
-    rows[at + 1] = place;
-    rows[at + 2] = counts.steps;
-    rows[at + 3] = counts.entries;
-    rows[at + 4] = counts.stays;
-    rows[at + 5] = counts.root;
-    rows[at + 6] = counts.passed;
-    rows[at + 7] = counts.crossed;
+    rows[at..at + 8].copy_from_slice(&[
+        number,
+        place,
+        counts.steps,
+        counts.entries,
+        counts.stays,
+        counts.root,
+        counts.passed,
+        counts.crossed,
+    ]);
 }
 
 // The row of one schedule, run from a fresh lock. The tree and the fresh words pass their tests, so only the schedule is tested; neither the final state nor the trace is kept.
@@ -56,14 +58,12 @@ pub(crate) fn run_rows(
     requires trace_len { length trace.old ≡ 65536 }
     ensures { rows.new ≡ sets rows.old 0 (all_rows tree.now (cut lengths.now entries.now)) }
 {
-    let mut k: usize = 0;
     let mut from: usize = 0;
     let mut at: usize = 0;
-    while k < lengths.len() {
-        let end = from + casts::number_index(lengths[k]);
+    for n in lengths {
+        let end = from + *n as usize;
         run_row(tree, &entries[from..end], trace, rows, at);
         from = end;
         at += 8;
-        k += 1;
     }
 }

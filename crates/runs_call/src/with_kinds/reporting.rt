@@ -12,17 +12,14 @@ use model::{Counts, LockState, TreeWords};
 use refusals::reasons::{Reason, Refusal};
 
 // The domain of a step, given its thread's home and the number that reports the step.
-fn domain_of(home: u8, code: u16) -> u16
+// Kept: `domain_of_code` of the run's loop, a crate below, and `domain_by` of journal_call, beside this crate; this one answers in 16 bits.
+fn domain_of(home: u16, code: u16) -> u16
     ensures { result ≡ row_domain home ((code / 8) % 16) (code / 128) }
 {
-    let row = (code / 8) % 16;
-    if row == 0 {
-        return casts::byte_word(home);
+    match (code / 8) % 16 {
+        0 | 5 => home,
+        _ => code / 128,
     }
-    if row == 5 {
-        return casts::byte_word(home);
-    }
-    code / 128
 }
 
 // Replaces the numbers that the run's loop reported, at the front of the rows, by two numbers each. It starts at the last step, so that no number is overwritten before it is read.
@@ -31,12 +28,10 @@ fn spread(homes: &[u8; 256], schedule: &[u16], rows: &mut [u16])
     requires threads_fit { ThreadsFit schedule.now }
     ensures { Spread homes.now schedule.now rows.old 0 rows.new }
 {
-    let mut k = schedule.len();
-    while 0 < k {
-        k -= 1;
+    for k in (0..schedule.len()).rev() {
         let code = rows[k];
-        let home = homes[casts::word_index(schedule[k])];
-        let domain = domain_of(home, code);
+        let home = homes[usize::from(schedule[k])];
+        let domain = domain_of(u16::from(home), code);
         rows[2 * k] = code % 8;
         rows[2 * k + 1] = domain;
     }

@@ -4,8 +4,8 @@ ghost use Rattle.std.proofs.lemmas.List.Edits.{sets};
 ghost use Rattle.model.specs.Trees.{tree_of};
 ghost use Rattle.model.specs.Runs.{steps, run};
 ghost use Rattle.model.specs.Counters.{counters_after, most_counted};
-ghost use Rattle.rows.specs.Common.Standing.{is_entry_number};
 ghost use Rattle.model.specs.Refusals.{run_refusal};
+ghost use Rattle.rows.specs.Common.Standing.{is_entry_number};
 ghost use Rattle.waits.specs.Attempts.{under_way_below};
 ghost use Rattle.waits.specs.Rows.{row_with, capped, all_rows_from};
 ghost use Rattle.runs_call.specs.WithWaits.Tallies.{first, begins_number, mark_with, mark_of, number_of, finishes, wait_of, noted, rows_by, numbers_by};
@@ -17,37 +17,30 @@ use model::{LockState, TreeWords};
 // The entries are counted from 2^63 on, so that there is a mark for every number that may be under way before them.
 const FIRST: u64 = 9223372036854775808;
 
-const LARGEST_NUMBER: u64 = 18446744073709551615;
-
-fn larger(a: u64, b: u64) -> u64
-    ensures { result ≡ max a b }
-{
-    if a < b {
-        return b;
-    }
-    a
+// What is kept for each thread while attempts are counted: the mark of the attempt under way, how many are finished, the sum of their waits and the longest.
+#[derive(Drop)]
+struct Tally {
+    marks: [u64; 256],
+    attempts: [u64; 256],
+    totals: [u64; 256],
+    longest: [u64; 256],
 }
 
 fn is_ticket_home(ticket_root: u32, home: u8) -> bool
     ensures { result ≡ ticket_home ticket_root home }
 {
-    if ticket_root == 0 {
-        return false;
-    }
-    home == 0
+    ticket_root != 0 && home == 0
 }
 
 // Whether a step begins an attempt, given its thread's home and the number of its place.
+#[tactic(auto, unfolding(crate::specs::WithWaits::Tallies::begins_number))]
 fn begins_at(ticket_home: bool, home: u8, place: u16) -> bool
     ensures { result ≡ begins_number ticket_home home place }
 {
     if ticket_home {
-        if place == 0 {
-            return true;
-        }
-        return place == 11;
+        return place == 0 || place == 11;
     }
-    place == 2 + 16 * (home as u16)
+    place == 2 + 16 * u16::from(home)
 }
 
 fn mark_with(begins: bool, entered: u64, mark: u64) -> u64
@@ -60,17 +53,8 @@ fn mark_with(begins: bool, entered: u64, mark: u64) -> u64
     mark
 }
 
-fn one_more(enters: bool, entered: u64) -> u64
-    requires { entered ≤ first + 65536 }
-    ensures { result ≡ entered + cond enters 1 0 }
-{
-    if enters {
-        return entered + 1;
-    }
-    entered
-}
-
 // The mark for a number under way.
+#[tactic(auto, unfolding(crate::specs::WithWaits::Tallies::mark_of))]
 fn mark_of(number: u64) -> u64
     requires { number ≤ most_counted }
     ensures { result ≡ mark_of number }
@@ -82,6 +66,7 @@ fn mark_of(number: u64) -> u64
 }
 
 // The number under way for a mark.
+#[tactic(auto, unfolding(crate::specs::WithWaits::Tallies::number_of))]
 fn number_of(entered: u64, mark: u64) -> u64
     requires entered_bound { entered ≤ first + 65536 }
     requires mark_bound { mark ≤ entered + 1 }
@@ -93,112 +78,11 @@ fn number_of(entered: u64, mark: u64) -> u64
     entered + 2 - mark
 }
 
-// The marks for the given numbers.
-fn set_marks(marks: &mut [u64; 256], under_way: &[u64; 256])
-    requires marks_len { length marks.old ≡ 256 }
-    requires handed_in { HandedIn under_way.now }
-    ensures { MarksOf under_way.now marks.new }
-{
-    let mut k: usize = 0;
-    while k < 256 {
-        marks[k] = mark_of(under_way[k]);
-        k += 1;
-    }
-}
-
-// The numbers of the threads after the run, from their marks.
-fn put_numbers(numbers: &mut [u64; 256], threads: u32, marks: &[u64; 256], entered: u64)
-    requires threads_bound { threads ≤ 256 }
-    requires marks_fit { MarksFit marks.now entered }
-    ensures { numbers.new ≡ sets numbers.old 0 (numbers_by threads entered marks.now) }
-{
-    let mut k: usize = 0;
-    while k < threads as usize {
-        numbers[k] = number_of(entered, marks[k]);
-        k += 1;
-    }
-}
-
-// The sum of two totals, or the largest 64-bit number if that is smaller.
-fn capped_sum(a: u64, b: u64) -> u64
-    ensures { result ≡ capped (a + b) }
-{
-    if LARGEST_NUMBER - a < b {
-        return LARGEST_NUMBER;
-    }
-    a + b
-}
-
 // Whether the kind with this number is an entry.
 fn is_entry(kind: u16) -> bool
     ensures { result ≡ is_entry_number kind }
 {
     matches!(kind, 2 | 3 | 4)
-}
-
-// Counts one more step in the tables of its thread, given whether it begins an attempt and whether it enters.
-fn note(
-    marks: &mut [u64; 256],
-    attempts: &mut [u64; 256],
-    totals: &mut [u64; 256],
-    longest: &mut [u64; 256],
-    at: usize,
-    entered: u64,
-    begins: bool,
-    enters: bool,
-)
-    requires { Fits marks.old attempts.old totals.old at entered }
-    ensures marks_after { marks.new ≡ set marks.old at (cond enters 0 (mark_at marks.old at entered begins)) }
-    ensures attempts_after { attempts.new ≡ noted (finishes enters (mark_at marks.old at entered begins)) attempts.old at (get_or attempts.old at 0 + 1) }
-    ensures totals_after { let mark = mark_at marks.old at entered begins in
-        totals.new ≡ noted (finishes enters mark) totals.old at (get_or totals.old at 0 + wait_of entered mark) }
-    ensures longest_after { let mark = mark_at marks.old at entered begins in
-        longest.new ≡ noted (finishes enters mark) longest.old at (max (get_or longest.old at 0) (wait_of entered mark)) }
-{
-    let mark = mark_with(begins, entered, marks[at]);
-    if !enters {
-        marks[at] = mark;
-        return;
-    }
-    marks[at] = 0;
-    if mark == 0 {
-        return;
-    }
-    let wait = entered + 1 - mark;
-    attempts[at] = attempts[at] + 1;
-    totals[at] = totals[at] + wait;
-    longest[at] = larger(longest[at], wait);
-}
-
-// Counts the steps of a piece one after another, and returns the number of entries so far.
-fn count_piece(
-    tree: &TreeWords,
-    schedule: &[u16],
-    codes: &[u16],
-    count: u64,
-    marks: &mut [u64; 256],
-    attempts: &mut [u64; 256],
-    totals: &mut [u64; 256],
-    longest: &mut [u64; 256],
-) -> u64
-    requires { Countable (tree_of tree.now) schedule.now codes.now marks.old attempts.old totals.old longest.old count }
-    ensures { Counted (tree_of tree.now) schedule.now codes.now marks.old attempts.old totals.old longest.old count marks.new attempts.new totals.new longest.new result }
-{
-    let mut entered = count;
-    let mut k: usize = 0;
-    while k < schedule.len() {
-        let at = casts::word_index(schedule[k]);
-        let code = codes[k];
-        let home = tree.homes[at];
-        let begins = begins_at(is_ticket_home(tree.ticket_root, home), home, code / 8);
-        let enters = is_entry(code % 8);
-        note(
-            marks, attempts, totals, longest, at, entered, begins, enters,
-        );
-        entered = one_more(enters, entered);
-        k += 1;
-    }
-    entered
 }
 
 // Writes the five numbers of a row at a position.
@@ -207,43 +91,110 @@ fn put_row(rows: &mut [u64], at: usize, attempts: u64, total: u64, most: u64)
     ensures { rows.new ≡ sets rows.old at (row_with attempts total most) }
 {
     let mean = crate::with_waits::mean_of(total, attempts);
-    rows[at] = attempts;
-    rows[at + 1] = total;
-    rows[at + 2] = most;
-    rows[at + 3] = mean.numerator;
-    rows[at + 4] = mean.denominator;
+    rows[at..at + 5].copy_from_slice(&[attempts, total, most, mean.numerator, mean.denominator]);
 }
 
-// One row per thread from its tables, and a last row for all threads.
-fn put_rows(
-    rows: &mut [u64],
-    threads: u32,
-    attempts: &[u64; 256],
-    totals: &[u64; 256],
-    longest: &[u64; 256],
-)
-    requires threads_bound { threads ≤ 256 }
-    requires threads_in_bounds { 5 * (threads + 1) ≤ length rows.old }
-    requires small { Small attempts.now }
-    ensures { rows.new ≡ sets rows.old 0 (rows_by threads attempts.now totals.now longest.now) }
-{
-    let mut k: usize = 0;
-    let mut at: usize = 0;
-    let mut all_attempts: u64 = 0;
-    let mut all_totals: u64 = 0;
-    let mut most: u64 = 0;
-    while k < threads as usize {
-        let a = attempts[k];
-        let w = totals[k];
-        let m = longest[k];
-        put_row(rows, at, a, w, m);
-        all_attempts += a;
-        all_totals = capped_sum(all_totals, w);
-        most = larger(most, m);
-        at += 5;
-        k += 1;
+impl Tally {
+    // No step is counted yet; the marks are those of the given numbers.
+    fn new(under_way: &[u64; 256]) -> Tally
+        requires { HandedIn under_way.now }
+        ensures marks { MarksOf under_way.now result.marks }
+        ensures attempts { result.attempts ≡ replicate 256 0 }
+        ensures totals { result.totals ≡ replicate 256 0 }
+        ensures longest { result.longest ≡ replicate 256 0 }
+    {
+        let mut marks = [0u64; 256];
+        for k in 0..256usize {
+            marks[k] = mark_of(under_way[k]);
+        }
+        Tally {
+            marks,
+            attempts: [0u64; 256],
+            totals: [0u64; 256],
+            longest: [0u64; 256],
+        }
     }
-    put_row(rows, at, all_attempts, all_totals, most);
+
+    // Counts one more step of a thread, given whether it begins an attempt and whether it enters.
+    fn note(&mut self, at: usize, entered: u64, begins: bool, enters: bool)
+        requires { Fits self.old.marks self.old.attempts self.old.totals at entered }
+        ensures marks_after { self.new.marks ≡ set self.old.marks at (cond enters 0 (mark_at self.old.marks at entered begins)) }
+        ensures attempts_after { self.new.attempts ≡ noted (finishes enters (mark_at self.old.marks at entered begins)) self.old.attempts at (get_or self.old.attempts at 0 + 1) }
+        ensures totals_after { let mark = mark_at self.old.marks at entered begins in
+            self.new.totals ≡ noted (finishes enters mark) self.old.totals at (get_or self.old.totals at 0 + wait_of entered mark) }
+        ensures longest_after { let mark = mark_at self.old.marks at entered begins in
+            self.new.longest ≡ noted (finishes enters mark) self.old.longest at (max (get_or self.old.longest at 0) (wait_of entered mark)) }
+    {
+        let mark = mark_with(begins, entered, self.marks[at]);
+        if !enters {
+            self.marks[at] = mark;
+            return;
+        }
+        self.marks[at] = 0;
+        if mark == 0 {
+            return;
+        }
+        let wait = entered + 1 - mark;
+        self.attempts[at] += 1;
+        self.totals[at] += wait;
+        self.longest[at] = self.longest[at].max(wait);
+    }
+
+    // Counts the steps of a piece one after another, and returns the number of entries so far.
+    fn count_piece(&mut self, tree: &TreeWords, schedule: &[u16], codes: &[u16], count: u64) -> u64
+        requires { Countable (tree_of tree.now) schedule.now codes.now self.old.marks self.old.attempts self.old.totals self.old.longest count }
+        ensures { Counted (tree_of tree.now) schedule.now codes.now self.old.marks self.old.attempts self.old.totals self.old.longest count self.new.marks self.new.attempts self.new.totals self.new.longest result }
+    {
+        let mut entered = count;
+        for k in 0..schedule.len() {
+            let at = usize::from(schedule[k]);
+            let code = codes[k];
+            let home = tree.homes[at];
+            let begins = begins_at(is_ticket_home(tree.ticket_root, home), home, code / 8);
+            let enters = is_entry(code % 8);
+            self.note(at, entered, begins, enters);
+            entered += u64::from(enters);
+        }
+        entered
+    }
+
+    // One row per thread, and a last row for all threads.
+    fn put_rows(&self, rows: &mut [u64], threads: u32)
+        requires threads_bound { threads ≤ 256 }
+        requires threads_in_bounds { 5 * (threads + 1) ≤ length rows.old }
+        requires small { Small self.now.attempts }
+        ensures { rows.new ≡ sets rows.old 0 (rows_by threads self.now.attempts self.now.totals self.now.longest) }
+    {
+        let mut attempts: u64 = 0;
+        let mut total: u64 = 0;
+        let mut most: u64 = 0;
+        for k in 0..threads as usize {
+            put_row(
+                rows,
+                5 * k,
+                self.attempts[k],
+                self.totals[k],
+                self.longest[k],
+            );
+            attempts += self.attempts[k];
+            total = total.saturating_add(self.totals[k]);
+            most = most.max(self.longest[k]);
+        }
+        put_row(rows, 5 * threads as usize, attempts, total, most);
+    }
+
+    // The numbers of the threads after the run, from their marks.
+    fn numbers(&self, threads: u32, entered: u64) -> [u64; 256]
+        requires threads_bound { threads ≤ 256 }
+        requires marks_fit { MarksFit self.now.marks entered }
+        ensures { result ≡ sets (replicate 256 0) 0 (numbers_by threads entered self.now.marks) }
+    {
+        let mut numbers = [0u64; 256];
+        for k in 0..threads as usize {
+            numbers[k] = number_of(entered, self.marks[k]);
+        }
+        numbers
+    }
 }
 
 // Adds the steps of a piece, by kind, to those before it.
@@ -265,10 +216,7 @@ fn piece_end(from: usize, whole: usize) -> usize
     requires { from < whole }
     ensures { (from < result) × ((result ≤ whole) × (result ≤ from + 1024)) }
 {
-    if whole - from <= 1024 {
-        return whole;
-    }
-    from + 1024
+    from + (whole - from).min(1024)
 }
 
 // The run of a whole schedule in pieces: the rows of its waits, starting from the attempts under way; the numbers under way after it; and the counters of the domains. The buffer that reports the steps holds one piece.
@@ -292,12 +240,8 @@ pub(crate) fn run_counted(
     ensures counters_after { state.new.counters ≡ counters_after (tree_of tree.now) state.old.counters (steps (tree_of tree.now) schedule.now state.old.words) }
 {
     lock::steps::run::fits_its_type(*state);
-    let mut marks = [0u64; 256];
-    set_marks(&mut marks, under_way);
-    let mut attempts = [0u64; 256];
-    let mut totals = [0u64; 256];
-    let mut largest = [0u64; 256];
-    let mut tally = [0u32; 6];
+    let mut tally = Tally::new(under_way);
+    let mut counts = [0u32; 6];
     let mut entered: u64 = FIRST;
     let mut from: usize = 0;
     while from < schedule.len() {
@@ -305,23 +249,19 @@ pub(crate) fn run_counted(
         let mut codes = [0u16; 1024];
         let mut piece = [0u32; 6];
         let written = (entered - FIRST) as usize;
-        lock::steps::run::run_lent(tree, state, &schedule[from..end], &mut trace[written..], &mut piece, &mut codes);
-        add_kinds(&mut tally, &piece);
-        entered = count_piece(
+        lock::steps::run::run_lent(
             tree,
+            state,
             &schedule[from..end],
-            &codes,
-            entered,
-            &mut marks,
-            &mut attempts,
-            &mut totals,
-            &mut largest,
+            &mut trace[written..],
+            &mut piece,
+            &mut codes,
         );
+        add_kinds(&mut counts, &piece);
+        entered = tally.count_piece(tree, &schedule[from..end], &codes, entered);
         from = end;
     }
-    *kinds = tally;
-    put_rows(rows, tree.threads, &attempts, &totals, &largest);
-    let mut numbers = [0u64; 256];
-    put_numbers(&mut numbers, tree.threads, &marks, entered);
-    *under_way = numbers;
+    *kinds = counts;
+    tally.put_rows(rows, tree.threads);
+    *under_way = tally.numbers(tree.threads, entered);
 }

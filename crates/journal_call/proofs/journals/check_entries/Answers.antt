@@ -3,8 +3,8 @@ use mathlib.Core.Path.{◌∙◌}
 use Rattle.journal_call.proofs.Journaling.{start}
 use Rattle.journal_call.proofs.journals.check_entries.Goals as goal
 
-pub walk_entries-last-requires : goal.walk_entries-last-requires
-walk_entries-last-requires c = start _ _ c.requires _ c.fresh_state-fresh.ensures
+pub walk_entries-requires : goal.walk_entries-requires
+walk_entries-requires c = start _ _ c.requires _ c.fresh_state-fresh.ensures
 
 pub returns : goal.returns
-returns c = c.answer_at.ensures ∙ c.walk_entries-last.ensures
+returns c = c.walk_entries.ensures

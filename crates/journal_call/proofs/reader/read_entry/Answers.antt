@@ -18,12 +18,12 @@ returns-then-bits-gt3 c = rw (lt-ltb _ _ c.if-journal-position.false, lt-ltb _ _
 
 pub whole_entry-requires : goal.whole_entry-requires
 whole_entry-requires c = let bits = c.if-bits-gt3.false in
-    record { bits_bound = omega (arith, bits, c.byte_index.ensures.0); position_in_bounds = omega (arith, c.if-journal-position-ge4.true, c.if-journal-position.false) }
+    record { bits_bound = omega (arith, bits, c.from.ensures); position_in_bounds = omega (arith, c.if-journal-position-ge4.true, c.if-journal-position.false) }
 
 pub returns-then-journal-position-ge4 : goal.returns-then-journal-position-ge4
 returns-then-journal-position-ge4 c = let a = c.args in
-    let few : c.byte_index.result ≤ 3 = omega (arith, c.if-bits-gt3.false, c.byte_index.ensures.0) in
-    c.whole_entry.ensures ∙ sym (whole_entry a.journal.now a.position a.before c.byte_index.result c.if-journal-position.false (sym c.byte_index.ensures.0) few (omega (arith, few, c.if-journal-position-ge4.true)))
+    let few : c.from.result ≤ 3 = omega (arith, c.if-bits-gt3.false, c.from.ensures) in
+    c.whole_entry.ensures ∙ sym (whole_entry a.journal.now a.position a.before c.from.result c.if-journal-position.false (sym c.from.ensures) few (omega (arith, few, c.if-journal-position-ge4.true)))
 
 pub returns-then-journal-position-2 : goal.returns-then-journal-position-2
 returns-then-journal-position-2 c = rw (lt-ltb _ _ c.if-journal-position.false, le-ltb _ _ c.if-bits-gt3.false, ← c.size_of.ensures, lt-ltb _ _ c.if-journal-position-2.true)

@@ -1,10 +1,6 @@
 -- `journal_call::reader::read_some` meets its contract: entries are read in order.
-use Prim.Native.Nat.{◌-◌, ◌≤◌}
 use Rattle.journal_call.specs.Reader.Stretches.{ReadOn}
 use Rattle.journal_call.proofs.reader.read_some.Given as goal
 
 abbrev pub invariant-loop-count : goal.invariant-loop-count
-invariant-loop-count l = (l.count ≤ l.end) × ReadOn l.known l.journal l.position l.before l.initial.threads l.initial.kinds l.from l.threads l.kinds l.count l.at l.last
-
-abbrev pub decreases-loop-count : goal.decreases-loop-count
-decreases-loop-count l = l.end - l.count
+invariant-loop-count l = ReadOn l.known l.journal l.position l.before l.initial.threads l.initial.kinds l.from l.threads l.kinds l.count l.at l.last

@@ -3,11 +3,11 @@ use native.Mathlib.Omega.{arith}
 use Rattle.runs_call.proofs.many_schedules.Adding.{too_long, one_less, none_left}
 use Rattle.runs_call.proofs.many_schedules.adds_up.Goals as goal
 
-pub returns-then-left-n : goal.returns-then-left-n
-returns-then-left-n c = too_long _ _ _ c.loop-k.k c.loop-k.invariant (omega arith) (omega arith)
+pub loop-n-preserved : goal.loop-n-preserved
+loop-n-preserved c = one_less _ _ _ c.loop-n.n-index c.loop-n.invariant c.loop-n-test.true c.in-Some.ensures.0 _ (omega (arith, c.in-Some.ensures.0, c.in-Some.ensures.1))
 
-pub loop-k-preserved : goal.loop-k-preserved
-loop-k-preserved c = one_less _ _ _ c.loop-k.k c.loop-k.invariant (omega arith) (omega arith) _ (omega arith)
+pub returns-in-None : goal.returns-in-None
+returns-in-None c = too_long _ _ _ c.loop-n.n-index c.loop-n.invariant c.loop-n-test.true (omega (arith, c.in-None.ensures))
 
 pub returns : goal.returns
-returns c = none_left _ _ _ c.loop-k.k c.loop-k.invariant (omega arith)
+returns c = none_left _ _ _ _ c.loop-n.invariant (omega arith)

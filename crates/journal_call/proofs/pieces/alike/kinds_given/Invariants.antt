@@ -1,10 +1,6 @@
 -- `journal_call::pieces::alike::kinds_given` meets its contract: it continues only after a bit map for a kind only.
-use Prim.Native.Nat.{◌-◌, ◌≤◌}
 use Rattle.journal_call.specs.Pieces.Pieces.{KindsGiven}
 use Rattle.journal_call.proofs.pieces.alike.kinds_given.Given as goal
 
 abbrev pub invariant-loop-k : goal.invariant-loop-k
-invariant-loop-k l = (l.k ≤ 16) × KindsGiven l.k l.journal l.position
-
-abbrev pub decreases-loop-k : goal.decreases-loop-k
-decreases-loop-k l = 16 - l.k
+invariant-loop-k l = KindsGiven l.k l.journal l.position

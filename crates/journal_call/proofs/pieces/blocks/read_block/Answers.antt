@@ -13,58 +13,54 @@ sizes_from-sizes-requires c = c.requires.position_in_bounds
 
 pub loop-count-init : goal.loop-count-init
 loop-count-init c = let none : c.args.position + 0 ≡ c.args.position = omega arith in
-    (omega (arith, c.requires), omega arith, rw none (nothing _ _ _ _ _ _ _ (omega (arith, c.requires)) (omega (arith, c.requires))))
+    (omega arith, rw none (nothing _ _ _ _ _ _ _ (omega (arith, c.requires)) (omega (arith, c.requires))))
 
 pub overflow_add-at : goal.overflow_add-at
-overflow_add-at c = omega (arith, c.loop-count.invariant, c.loop-count-test.true, c.requires)
+overflow_add-at c = omega (arith, c.loop-count.invariant, c.requires)
 
 pub bounds-journal-at : goal.bounds-journal-at
-bounds-journal-at c = omega (arith, c.loop-count.invariant, c.loop-count-test.true, c.requires)
+bounds-journal-at c = omega (arith, c.loop-count.invariant, c.requires)
 
 pub returns-then-bits-gt3 : goal.returns-then-bits-gt3
-returns-then-bits-gt3 c = rw c.stopped.ensures (record { read_on = c.loop-count.invariant.2; stopped_before = broken _ _ _ _ _ _ (no_entry c.args.journal.now (c.args.position + c.loop-count.passed) c.loop-count.last _ (omega (arith, c.loop-count.invariant, c.loop-count-test.true, c.requires)) refl c.if-bits-gt3.true) })
+returns-then-bits-gt3 c = rw c.stopped.ensures (record { read_on = c.loop-count.invariant.1; stopped_before = broken _ _ _ _ _ _ (no_entry c.args.journal.now (c.args.position + c.loop-count.passed) c.loop-count.last _ (omega (arith, c.loop-count.invariant, c.requires)) refl c.if-bits-gt3.true) })
 
 pub thread_at-thread-requires : goal.thread_at-thread-requires
-thread_at-thread-requires c = record { bits_bound = omega (arith, c.if-bits-gt3.false, c.byte_index-map.ensures.0); position_in_bounds = omega (arith, c.loop-count.invariant, c.loop-count-test.true, c.requires) }
+thread_at-thread-requires c = record { bits_bound = omega (arith, c.if-bits-gt3.false, c.from-map.ensures); position_in_bounds = omega (arith, c.loop-count.invariant, c.requires) }
 
-pub returns-then-known-thread : goal.returns-then-known-thread
-returns-then-known-thread c = rw c.stopped-then-known-thread.ensures (record { read_on = c.loop-count.invariant.2; stopped_before = unknown _ _ _ _ _ _ _ _ _ (entry_read c.args.journal.now (c.args.position + c.loop-count.passed) c.loop-count.last c.byte_index-map.result (omega (arith, c.loop-count.invariant, c.loop-count-test.true, c.requires)) c.byte_index-map.ensures.0 _ _ _ (omega (arith, c.if-bits-gt3.false, c.byte_index-map.ensures.0)) c.thread_at-thread.ensures refl refl) c.if-known-thread.true })
+pub returns-then-known-from : goal.returns-then-known-from
+returns-then-known-from c = rw c.stopped-then-known-from.ensures (record { read_on = c.loop-count.invariant.1; stopped_before = unknown _ _ _ _ _ _ _ _ _ (entry_read c.args.journal.now (c.args.position + c.loop-count.passed) c.loop-count.last c.from-map.result (omega (arith, c.loop-count.invariant, c.requires)) c.from-map.ensures _ _ _ (omega (arith, c.if-bits-gt3.false, c.from-map.ensures)) c.thread_at-thread.ensures refl refl) (omega (arith, c.if-known-from.true, c.from.ensures)) })
 
 pub bounds-threads-count : goal.bounds-threads-count
-bounds-threads-count c = omega (arith, c.loop-count-test.true, threads_long _ _ _ _ _ _ _ _ _ _ _ _ c.loop-count.invariant.2, c.requires)
+bounds-threads-count c = omega (arith, threads_long _ _ _ _ _ _ _ _ _ _ _ _ c.loop-count.invariant.1, c.requires)
 
 pub kind_at-requires : goal.kind_at-requires
-kind_at-requires c = record { bits_bound = omega (arith, c.if-bits-gt3.false, c.byte_index-map.ensures.0); position_in_bounds = omega (arith, c.loop-count.invariant, c.loop-count-test.true, c.requires) }
+kind_at-requires c = record { bits_bound = omega (arith, c.if-bits-gt3.false, c.from-map.ensures); position_in_bounds = omega (arith, c.loop-count.invariant, c.requires) }
 
 pub bounds-kinds-count : goal.bounds-kinds-count
-bounds-kinds-count c = omega (arith, c.loop-count-test.true, kinds_long _ _ _ _ _ _ _ _ _ _ _ _ c.loop-count.invariant.2, c.requires)
+bounds-kinds-count c = omega (arith, kinds_long _ _ _ _ _ _ _ _ _ _ _ _ c.loop-count.invariant.1, c.requires)
 
 pub bounds-sizes-passed : goal.bounds-sizes-passed
-bounds-sizes-passed c = omega (arith, c.loop-count.invariant, c.loop-count-test.true, c.requires)
+bounds-sizes-passed c = omega (arith, c.loop-count.invariant, c.requires)
 
 pub overflow_add-passed : goal.overflow_add-passed
-overflow_add-passed c = omega (arith, c.loop-count.invariant, c.loop-count-test.true, c.requires)
-
-pub loop-count-smaller : goal.loop-count-smaller
-loop-count-smaller c = omega (arith, c.loop-count-test.true)
+overflow_add-passed c = omega (arith, c.loop-count.invariant, c.requires)
 
 pub loop-count-preserved : goal.loop-count-preserved
-loop-count-preserved c = let here = c.loop-count-test.true in
-    let few : c.byte_index-map.result ≤ 3 = omega (arith, c.if-bits-gt3.false, c.byte_index-map.ensures.0) in
-    let left : c.args.position + c.loop-count.passed + 4 ≤ length c.args.journal.now = omega (arith, c.loop-count.invariant, here, c.requires) in
-    let within : c.loop-count.passed < 128 = omega (arith, c.loop-count.invariant, here, c.requires) in
-    let size : c.byte_index-passed.result ≡ entry_size c.byte_index-map.result =
-    c.byte_index-passed.ensures.0 ∙ c.sizes_from-sizes.ensures.size c.loop-count.passed within (omega (arith, few, c.byte_index-map.ensures.0)) ∙ ap entry_size (sym c.byte_index-map.ensures.0) in (
-      omega arith,
+loop-count-preserved c = let few : c.from-map.result ≤ 3 = omega (arith, c.if-bits-gt3.false, c.from-map.ensures) in
+    let left : c.args.position + c.loop-count.passed + 4 ≤ length c.args.journal.now = omega (arith, c.loop-count.invariant, c.requires) in
+    let within : c.loop-count.passed < 128 = omega (arith, c.loop-count.invariant, c.requires) in
+    let size : c.from-passed.result ≡ entry_size c.from-map.result =
+    c.from-passed.ensures ∙ c.sizes_from-sizes.ensures.size c.loop-count.passed within (omega (arith, few, c.from-map.ensures)) ∙ ap entry_size (sym c.from-map.ensures) in (
       omega (arith, c.loop-count.invariant, size, few),
-      more _ _ _ _ _ _ _ _ _ _ _ _ c.loop-count.invariant.2 _ _ _ _ _
-          (one _ _ _ _ _ _ _ _ _ _ (omega (arith, here, threads_long _ _ _ _ _ _ _ _ _ _ _ _ c.loop-count.invariant.2, c.requires)) (omega (arith, here, kinds_long _ _ _ _ _ _ _ _ _ _ _ _ c.loop-count.invariant.2, c.requires))
-          (entry_read c.args.journal.now (c.args.position + c.loop-count.passed) c.loop-count.last c.byte_index-map.result left c.byte_index-map.ensures.0 _ _ _ few c.thread_at-thread.ensures c.kind_at.ensures (omega (arith, size)))
-          c.if-known-thread.false),
+      more _ _ _ _ _ _ _ _ _ _ _ _ c.loop-count.invariant.1 _ _ _ _ _
+          (one _ _ _ _ _ _ _ _ _ _ (omega (arith, threads_long _ _ _ _ _ _ _ _ _ _ _ _ c.loop-count.invariant.1, c.requires)) (omega (arith, kinds_long _ _ _ _ _ _ _ _ _ _ _ _ c.loop-count.invariant.1, c.requires))
+          (entry_read c.args.journal.now (c.args.position + c.loop-count.passed) c.loop-count.last c.from-map.result left c.from-map.ensures _ _ _ few c.thread_at-thread.ensures c.kind_at.ensures (omega (arith, size)))
+          (omega (arith, c.if-known-from.false, c.from.ensures))),
     )
 
 pub overflow_add-position : goal.overflow_add-position
 overflow_add-position c = omega (arith, c.loop-count.invariant, c.requires)
 
 pub returns : goal.returns
-returns c = rw c.stopped-2.ensures (record { read_on = c.loop-count.invariant.2; stopped_before = reached _ _ _ _ _ _ c.loop-count-test.false })
+returns c = let all : c.loop-count.count ≡ c.args.end = omega arith in
+    rw c.stopped-2.ensures (record { read_on = rw all at c.loop-count.invariant.1; stopped_before = reached _ _ _ _ _ _ (omega arith) })

@@ -5,14 +5,11 @@ use Rattle.journal_call.proofs.pieces.Sizes.{no_size, one_size}
 use Rattle.journal_call.proofs.pieces.blocks.sizes_from.Goals as goal
 
 pub loop-k-init : goal.loop-k-init
-loop-k-init c = (omega arith, no_size _ _ _ refl)
-
-pub loop-k-smaller : goal.loop-k-smaller
-loop-k-smaller c = omega arith
+loop-k-init c = no_size _ _ _ refl
 
 pub loop-k-preserved : goal.loop-k-preserved
-loop-k-preserved c = (omega arith, one_size _ _ _ _ _ c.loop-k.invariant.1 (omega arith) c.size_by.ensures)
+loop-k-preserved c = one_size _ _ _ _ _ c.loop-k.invariant (omega arith) c.size_by.ensures
 
 pub returns : goal.returns
-returns c = let done : c.loop-k.k ≡ 128 = omega (arith, c.loop-k.invariant.0, c.loop-k-test.false) in
-    rw done at c.loop-k.invariant.1
+returns c = let done : c.loop-k.k ≡ 128 = omega arith in
+    rw done at c.loop-k.invariant

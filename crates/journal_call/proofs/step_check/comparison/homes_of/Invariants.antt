@@ -1,10 +1,6 @@
 -- `journal_call::step_check::comparison::homes_of` meets its contract: the homes of the threads so far are in the table.
-use Prim.Native.Nat.{◌-◌, ◌≤◌}
 use Rattle.journal_call.specs.StepCheck.Stretches.{HomesOf}
 use Rattle.journal_call.proofs.step_check.comparison.homes_of.Given as goal
 
 abbrev pub invariant-loop-k : goal.invariant-loop-k
-invariant-loop-k l = (l.k ≤ l.count) × HomesOf l.homes l.threads l.k l.found
-
-abbrev pub decreases-loop-k : goal.decreases-loop-k
-decreases-loop-k l = l.count - l.k
+invariant-loop-k l = HomesOf l.homes l.threads l.k l.found

@@ -13,19 +13,19 @@ run_part-requires c = let a = c.args in
     let S = c.stretch_of-stretch.ensures in
     record { count_in_bounds = S.within; typed = g.typed; trace_value = tests _ _ _ a.kinds.now a.domains.now g _ S c.stretch_of-stretch.result.steps _ (omega arith) (omega (arith, S.within, q.few)) (omega (arith, S.within, q.few, q.trace_room)) }
 
-pub first_difference-same-requires : goal.first_difference-same-requires
-first_difference-same-requires c = let a = c.args in
+pub first_difference-requires : goal.first_difference-requires
+first_difference-requires c = let a = c.args in
     let g = c.requires.fact in
     let q = c.requires.piece_fits in
     let S = c.stretch_of-stretch.ensures in
     comparable _ _ _ a.kinds.now a.domains.now g _ S q.kinds_long q.domains_long _ _ q.codes_room q.few c.run_part.ensures.codes_after
 
-pub returns-then-count-same : goal.returns-then-count-same
-returns-then-count-same c = let a = c.args in
+pub returns-in-None : goal.returns-in-None
+returns-in-None c = let a = c.args in
     let g = c.requires.fact in
     let q = c.requires.piece_fits in
     let S = c.stretch_of-stretch.ensures in
-    let answer = piece_passes _ _ _ a.kinds.now a.domains.now g _ S q.kinds_long q.domains_long _ _ q.codes_room q.few c.run_part.ensures.codes_after _ c.first_difference-same.ensures c.if-count-same.true in
+    let answer = piece_passes _ _ _ a.kinds.now a.domains.now g _ S q.kinds_long q.domains_long _ _ q.codes_room q.few c.run_part.ensures.codes_after c.stretch_of-stretch.result.steps c.in-None.ensures.lowest (omega arith) in
     record { result_value = answer.0; after_after = c.run_part.ensures.after_after ∙ answer.1; trace_len_unchanged = c.run_part.ensures.trace_len_unchanged; codes_len_unchanged = ap length c.run_part.ensures.codes_after ∙ reported_front_length _ _ }
 
 pub offset_bounds-kinds-same : goal.offset_bounds-kinds-same
@@ -33,36 +33,36 @@ offset_bounds-kinds-same c = let a = c.args in
     let g = c.requires.fact in
     let q = c.requires.piece_fits in
     let S = c.stretch_of-stretch.ensures in
-    omega (arith, c.first_difference-same.ensures.within, S.within, q.few)
+    omega (arith, c.in-Some.ensures.inside, S.within, q.few)
 
 pub bounds-kinds-same : goal.bounds-kinds-same
 bounds-kinds-same c = let a = c.args in
     let g = c.requires.fact in
     let q = c.requires.piece_fits in
     let S = c.stretch_of-stretch.ensures in
-    omega (arith, c.if-count-same.false, c.first_difference-same.ensures.within, S.within, q.kinds_long)
+    omega (arith, c.in-Some.ensures.inside, S.within, q.kinds_long)
 
 pub offset_bounds-codes-same : goal.offset_bounds-codes-same
 offset_bounds-codes-same c = let a = c.args in
     let g = c.requires.fact in
     let q = c.requires.piece_fits in
     let S = c.stretch_of-stretch.ensures in
-    omega (arith, c.first_difference-same.ensures.within, S.within, q.few)
+    omega (arith, c.in-Some.ensures.inside, S.within, q.few)
 
 pub bounds-codes-same : goal.bounds-codes-same
 bounds-codes-same c = let a = c.args in
     let g = c.requires.fact in
     let q = c.requires.piece_fits in
     let S = c.stretch_of-stretch.ensures in
-    omega (arith, c.if-count-same.false, c.first_difference-same.ensures.within, (comparable _ _ _ a.kinds.now a.domains.now g _ S q.kinds_long q.domains_long _ _ q.codes_room q.few c.run_part.ensures.codes_after).codes_long)
+    omega (arith, c.in-Some.ensures.inside, (comparable _ _ _ a.kinds.now a.domains.now g _ S q.kinds_long q.domains_long _ _ q.codes_room q.few c.run_part.ensures.codes_after).codes_long)
 
 pub run_part-requires-2 : goal.run_part-requires-2
 run_part-requires-2 c = let a = c.args in
     let g = c.requires.fact in
     let q = c.requires.piece_fits in
     let S = c.stretch_of-stretch.ensures in
-    let h = c.if-count-same.false in
-    let m = c.first_difference-same.result in
+    let h = c.in-Some.ensures.inside in
+    let m = c.in-Some.same in
     record { count_in_bounds = omega (arith, h, S.within); typed = g.typed; trace_value = tests _ _ _ a.kinds.now a.domains.now g _ S m _ (omega (arith, h)) (omega (arith, h, S.within, q.few)) (omega (arith, h, S.within, q.few, q.trace_room, c.run_part.ensures.trace_len_unchanged)) }
 
 pub returns : goal.returns
@@ -70,5 +70,5 @@ returns c = let a = c.args in
     let g = c.requires.fact in
     let q = c.requires.piece_fits in
     let S = c.stretch_of-stretch.ensures in
-    let answer = piece_stops _ _ _ a.kinds.now a.domains.now g _ S q.kinds_long q.domains_long _ _ q.codes_room q.few c.run_part.ensures.codes_after _ c.first_difference-same.ensures c.if-count-same.false _ c.number_of-number.ensures in
+    let answer = piece_stops _ _ _ a.kinds.now a.domains.now g _ S q.kinds_long q.domains_long _ _ q.codes_room q.few c.run_part.ensures.codes_after _ c.in-Some.ensures.lowest c.in-Some.ensures.inside _ c.number_of-number.ensures in
     record { result_value = answer.0; after_after = c.run_part-2.ensures.after_after ∙ answer.1; trace_len_unchanged = c.run_part-2.ensures.trace_len_unchanged ∙ c.run_part.ensures.trace_len_unchanged; codes_len_unchanged = ap length c.run_part-2.ensures.codes_after ∙ reported_front_length _ _ ∙ ap length c.run_part.ensures.codes_after ∙ reported_front_length _ _ }

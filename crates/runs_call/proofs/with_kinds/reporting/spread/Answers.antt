@@ -15,9 +15,9 @@ bounds-rows-k c = omega (arith, c.loop-k.invariant.0, c.loop-k.invariant.1.long,
 pub bounds-schedule-k : goal.bounds-schedule-k
 bounds-schedule-k c = omega (arith, c.loop-k.invariant.0)
 
-pub bounds-homes-word_index : goal.bounds-homes-word_index
-bounds-homes-word_index c = let k = c.loop-k.k in
-    rw c.word_index.ensures (c.requires.threads_fit.fits (k - 1) (omega (arith, c.loop-k.invariant.0)))
+pub bounds-homes-from : goal.bounds-homes-from
+bounds-homes-from c = let k = c.loop-k.k in
+    rw c.from.ensures (c.requires.threads_fit.fits (k - 1) (omega (arith, c.loop-k.invariant.0)))
 
 pub overflow_mul-rows : goal.overflow_mul-rows
 overflow_mul-rows c = omega (arith, c.loop-k.invariant.0, c.loop-k.invariant.1.long, c.requires.schedule_in_bounds)
@@ -43,7 +43,7 @@ bounds-rows-k-in-loop-k-2 c = omega (arith, c.loop-k.invariant.0, c.loop-k.invar
 pub loop-k-preserved : goal.loop-k-preserved
 loop-k-preserved c = let k = c.loop-k.k in
     let z : k - 1 + 1 ≡ k = omega arith in
-    (omega (arith, c.loop-k.invariant.0), spread_one _ _ _ c.loop-k.rows (k - 1) (omega (arith, c.loop-k.invariant.0)) c.requires.schedule_in_bounds (rw z c.loop-k.invariant.1) _ _ c.word_index.ensures c.domain_of-domain.ensures)
+    (omega (arith, c.loop-k.invariant.0), spread_one _ _ _ c.loop-k.rows (k - 1) (omega (arith, c.loop-k.invariant.0)) c.requires.schedule_in_bounds (rw z c.loop-k.invariant.1) _ _ _ c.from.ensures c.from-in-loop-k.ensures c.domain_of-domain.ensures)
 
 pub returns : goal.returns
 returns c = let z : c.loop-k.k ≡ 0 = omega arith in

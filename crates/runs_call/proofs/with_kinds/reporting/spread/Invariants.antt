@@ -6,6 +6,3 @@ use Rattle.runs_call.proofs.with_kinds.reporting.spread.Given as goal
 
 abbrev pub invariant-loop-k : goal.invariant-loop-k
 invariant-loop-k l = (l.k ≤ length l.schedule) × Spread l.homes l.schedule l.initial.rows l.k l.rows
-
-abbrev pub decreases-loop-k : goal.decreases-loop-k
-decreases-loop-k l = l.k

@@ -1,16 +1,16 @@
 -- `runs_call::with_waits::waiting::run_counted` meets its contract: the pieces so far are run and counted.
 use native.Mathlib.Omega.{arith}
-use borrow.Author.Rules.{rules}
 use Rattle.model.specs.Trees.{tree_of}
 use Rattle.model.proofs.Laws.Calls.{run_facts}
 use Rattle.runs_call.proofs.with_waits.Pieces.{pieces_start, part_room, from_first, entered_small, attempts_table, marks_fit, state_ends, counters_end, kinds_end, trace_ends, rows_are, numbers_are, piece_runs, kinds_fit, countable, pieces_turn, threads_few}
 use Rattle.runs_call.proofs.with_waits.waiting.run_counted.Goals as goal
 
-pub set_marks-requires : goal.set_marks-requires
-set_marks-requires c = record { marks_len = search rules; handed_in = c.requires.handed_in }
+pub new-tally-requires : goal.new-tally-requires
+new-tally-requires c = c.requires.handed_in
 
 pub loop-from-init : goal.loop-from-init
-loop-from-init c = pieces_start _ _ _ _ _ _ _ c.requires.handed_in c.set_marks.ensures (record { typed = c.fits_its_type.ensures; form = (run_facts _ _ _ _ c.requires.trace_value).form })
+loop-from-init c = let e = c.new-tally.ensures in
+    rw (e.attempts, e.totals, e.longest) (pieces_start _ _ _ _ _ _ _ c.requires.handed_in e.marks (record { typed = c.fits_its_type.ensures; form = (run_facts _ _ _ _ c.requires.trace_value).form }))
 
 pub overflow_sub-written : goal.overflow_sub-written
 overflow_sub-written c = from_first _ _ _ _ _ _ _ _ _ _ _ _ _ _ _ _ c.loop-from.invariant c.requires.trace_value
@@ -53,13 +53,13 @@ pub put_rows-requires : goal.put_rows-requires
 unfolding tree_of
 put_rows-requires c = record { threads_bound = threads_few c.args.tree.now (run_facts _ _ _ _ c.requires.trace_value).tree; threads_in_bounds = c.requires.tree_in_bounds; small = attempts_table _ _ _ _ _ _ _ _ _ _ _ _ _ _ _ _ c.loop-from.invariant c.requires.trace_value }
 
-pub put_numbers-requires : goal.put_numbers-requires
+pub numbers-requires : goal.numbers-requires
 unfolding tree_of
-put_numbers-requires c = record { threads_bound = threads_few c.args.tree.now (run_facts _ _ _ _ c.requires.trace_value).tree; marks_fit = marks_fit _ _ _ _ _ _ _ _ _ _ _ _ _ _ _ _ c.loop-from.invariant c.requires.trace_value }
+numbers-requires c = record { threads_bound = threads_few c.args.tree.now (run_facts _ _ _ _ c.requires.trace_value).tree; marks_fit = marks_fit _ _ _ _ _ _ _ _ _ _ _ _ _ _ _ _ c.loop-from.invariant c.requires.trace_value }
 
 pub returns : goal.returns
 unfolding tree_of
 returns c = let e = c.loop-from-test.false in
     let ok = c.requires.trace_value in
     let g = c.loop-from.invariant in
-    let few = threads_few c.args.tree.now (run_facts _ _ _ _ ok).tree in record { words_after = state_ends _ _ _ _ _ _ _ _ _ _ _ _ _ _ _ _ g ok e; trace_after = trace_ends _ _ _ _ _ _ _ _ _ _ _ _ _ _ _ _ g ok e; kinds_after = kinds_end _ _ _ _ _ _ _ _ _ _ _ _ _ _ _ _ g ok e; rows_after = rows_are _ _ _ _ _ _ _ _ _ _ _ _ _ _ _ _ g ok e few _ _ c.put_rows.ensures; under_way_after = numbers_are _ _ _ _ _ _ _ _ _ _ _ _ _ _ _ _ g ok e few _ _ c.put_numbers.ensures; counters_after = counters_end _ _ _ _ _ _ _ _ _ _ _ _ _ _ _ _ g ok e }
+    let few = threads_few c.args.tree.now (run_facts _ _ _ _ ok).tree in record { words_after = state_ends _ _ _ _ _ _ _ _ _ _ _ _ _ _ _ _ g ok e; trace_after = trace_ends _ _ _ _ _ _ _ _ _ _ _ _ _ _ _ _ g ok e; kinds_after = kinds_end _ _ _ _ _ _ _ _ _ _ _ _ _ _ _ _ g ok e; rows_after = rows_are _ _ _ _ _ _ _ _ _ _ _ _ _ _ _ _ g ok e few _ _ c.put_rows.ensures; under_way_after = numbers_are _ _ _ _ _ _ _ _ _ _ _ _ _ _ _ _ g ok e few _ _ c.numbers.ensures; counters_after = counters_end _ _ _ _ _ _ _ _ _ _ _ _ _ _ _ _ g ok e }

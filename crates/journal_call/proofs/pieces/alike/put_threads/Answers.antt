@@ -1,7 +1,0 @@
--- `journal_call::pieces::alike::put_threads` meets its contract: four stores in order.
-use mathlib.Core.List.{[], ◌∷◌}
-use Rattle.model.proofs.Storing.{stored}
-use Rattle.journal_call.proofs.pieces.alike.put_threads.Goals as goal
-
-pub returns : goal.returns
-returns c = stored c.args.threads.now c.args.count c.args.a (c.args.b ∷ c.args.c ∷ c.args.d ∷ [])

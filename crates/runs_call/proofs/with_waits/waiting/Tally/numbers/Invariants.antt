@@ -1,0 +1,6 @@
+-- `runs_call::with_waits::waiting::Tally::numbers` meets its contract: the numbers stored so far.
+use Rattle.runs_call.proofs.with_waits.Writing.{Numbered}
+use Rattle.runs_call.proofs.with_waits.waiting.Tally.numbers.Given as goal
+
+abbrev pub invariant-loop-k : goal.invariant-loop-k
+invariant-loop-k l = Numbered l.threads l.entered l.self.marks l.initial.numbers l.numbers l.k
