@@ -21,7 +21,7 @@ pub fn prep(w: Member, words: &mut State) -> Moved
     let r = w.own as usize;
     words.nexts[r] = 0;
     words.statuses[r] = rows::root_word_at(l, model::LOCKED, model::WAIT);
-    rows::moves(Kind::OtherMove, Place::Swap(l))
+    Moved::to(Kind::OtherMove, Place::Swap(l))
 }
 
 pub fn swap(tree: &TreeWords, w: Member, words: &mut State, counters: &mut Counters) -> Moved
@@ -39,17 +39,17 @@ pub fn swap(tree: &TreeWords, w: Member, words: &mut State, counters: &mut Count
     let old = words.tails[d];
     words.tails[d] = own + 1;
     if old != 0 {
-        return rows::moves(Kind::OtherMove, Place::Link(l, old - 1));
+        return Moved::to(Kind::OtherMove, Place::Link(l, old - 1));
     }
     counting::count_given(own, counters);
     if l == 0 {
         words.statuses[r] = model::UNLOCKED;
         counting::count_entry(tree, w.home, &mut counters.entries);
-        return rows::moves(Kind::RootEntry, Place::Inside);
+        return Moved::to(Kind::RootEntry, Place::Inside);
     }
     words.statuses[r] = model::COHORT_START;
     let next = places::acquire_place_at(tree.ticket_root, tree.parents[d]);
-    rows::moves(Kind::OtherMove, next)
+    Moved::to(Kind::OtherMove, next)
 }
 
 pub fn link(w: Member, before: u16, words: &mut State) -> Moved
@@ -59,7 +59,7 @@ pub fn link(w: Member, before: u16, words: &mut State) -> Moved
     ensures kind_value { is_entry_number (number_of_kind result.kind) ≡ false }
 {
     words.nexts[before as usize] = w.own + 1;
-    rows::moves(Kind::OtherMove, Place::Wait(w.domain))
+    Moved::to(Kind::OtherMove, Place::Wait(w.domain))
 }
 
 pub fn wait(
@@ -80,24 +80,24 @@ pub fn wait(
     let v = words.statuses[r];
     if l == 0 {
         if v == model::LOCKED {
-            return rows::at_place(Kind::Stay, place);
+            return Moved::stay(place);
         }
         counting::count_entry(tree, w.home, entries);
-        return rows::moves(Kind::RootEntry, Place::Inside);
+        return Moved::to(Kind::RootEntry, Place::Inside);
     }
     if v == model::WAIT {
-        return rows::at_place(Kind::Stay, place);
+        return Moved::stay(place);
     }
     if v == model::ACQUIRE_PARENT {
         words.statuses[r] = model::COHORT_START;
         let next = places::acquire_place_at(tree.ticket_root, tree.parents[l as usize]);
-        return rows::moves(Kind::OtherMove, next);
+        return Moved::to(Kind::OtherMove, next);
     }
     counting::count_entry(tree, w.home, entries);
     if l == w.home {
-        return rows::moves(Kind::PassedEntry, Place::Inside);
+        return Moved::to(Kind::PassedEntry, Place::Inside);
     }
-    rows::moves(Kind::CrossedEntry, Place::Inside)
+    Moved::to(Kind::CrossedEntry, Place::Inside)
 }
 
 // The thread draws the root's ticket: it goes Inside if the grant shows it, else it watches.
@@ -113,11 +113,11 @@ pub fn draw(tree: &TreeWords, w: Member, words: &mut State, counters: &mut Count
     words.ticket = counting::next_number(v);
     words.statuses[w.own as usize] = u64::from(v);
     if v != words.grant {
-        return rows::moves(Kind::OtherMove, Place::Watch);
+        return Moved::to(Kind::OtherMove, Place::Watch);
     }
     counting::count_given(w.own, counters);
     counting::count_entry(tree, w.home, &mut counters.entries);
-    rows::moves(Kind::RootEntry, Place::Inside)
+    Moved::to(Kind::RootEntry, Place::Inside)
 }
 
 pub fn watch(
@@ -135,10 +135,10 @@ pub fn watch(
 {
     let v = words.statuses[w.own as usize];
     if v != u64::from(words.grant) {
-        return rows::at_place(Kind::Stay, place);
+        return Moved::stay(place);
     }
     counting::count_entry(tree, w.home, entries);
-    rows::moves(Kind::RootEntry, Place::Inside)
+    Moved::to(Kind::RootEntry, Place::Inside)
 }
 
 // A thread at home draws if its home is a ticket root, else it does Prep. No tenure starts: the record is the thread's own.

@@ -17,7 +17,7 @@ pub fn leave(ticket_root: u32, home: u8) -> Moved
     ensures row_done { (s : State) → RowDone (λ t i s. (home ≡ t.home i) × RootIs t ticket_root) leave_row result s s }
     ensures kind_value { is_entry_number (number_of_kind result.kind) ≡ false }
 {
-    rows::moves(Kind::Leaving, places::release_place_at(ticket_root, home))
+    Moved::to(Kind::Leaving, places::release_place_at(ticket_root, home))
 }
 
 // Never at the root. A Check that will grant reports the word as the length of the domain's tenure.
@@ -35,10 +35,10 @@ pub fn check(tree: &TreeWords, w: Member, words: &State, longest: &mut [u64; 64]
     let h = u64::from(tree.thresholds[d]);
     if h <= v || n == 0 {
         let next = places::release_place_at(tree.ticket_root, tree.parents[d]);
-        return rows::moves(Kind::OtherMove, next);
+        return Moved::to(Kind::OtherMove, next);
     }
     counting::count_length(longest, l, v + 1);
-    rows::moves(Kind::OtherMove, Place::Grant(l, n - 1, v + 1))
+    Moved::to(Kind::OtherMove, Place::Grant(l, n - 1, v + 1))
 }
 
 pub fn help(w: Member, words: &State) -> Moved
@@ -49,10 +49,10 @@ pub fn help(w: Member, words: &State) -> Moved
     let l = w.domain;
     let n = words.nexts[w.own as usize];
     if n == 0 {
-        return rows::moves(Kind::OtherMove, Place::Cas(l));
+        return Moved::to(Kind::OtherMove, Place::Cas(l));
     }
     let v = rows::root_word_at(l, model::UNLOCKED, model::ACQUIRE_PARENT);
-    rows::moves(Kind::OtherMove, Place::Grant(l, n - 1, v))
+    Moved::to(Kind::OtherMove, Place::Grant(l, n - 1, v))
 }
 
 pub fn cas(w: Member, words: &mut State) -> Moved
@@ -63,10 +63,10 @@ pub fn cas(w: Member, words: &mut State) -> Moved
     let l = w.domain;
     let d = l as usize;
     if words.tails[d] != w.own + 1 {
-        return rows::moves(Kind::OtherMove, Place::Linger(l));
+        return Moved::to(Kind::OtherMove, Place::Linger(l));
     }
     words.tails[d] = 0;
-    rows::moves(Kind::OtherMove, places::done_place_at(w.home, l, w.child))
+    Moved::to(Kind::OtherMove, places::done_place_at(w.home, l, w.child))
 }
 
 pub fn linger(w: Member, place: PlaceWords, words: &State) -> Moved
@@ -77,10 +77,10 @@ pub fn linger(w: Member, place: PlaceWords, words: &State) -> Moved
     let l = w.domain;
     let n = words.nexts[w.own as usize];
     if n == 0 {
-        return rows::at_place(Kind::Stay, place);
+        return Moved::stay(place);
     }
     let v = rows::root_word_at(l, model::UNLOCKED, model::ACQUIRE_PARENT);
-    rows::moves(Kind::OtherMove, Place::Grant(l, n - 1, v))
+    Moved::to(Kind::OtherMove, Place::Grant(l, n - 1, v))
 }
 
 pub fn grant(w: Member, to: u16, word: u64, words: &mut State, counters: &mut Counters) -> Moved
@@ -93,7 +93,7 @@ pub fn grant(w: Member, to: u16, word: u64, words: &mut State, counters: &mut Co
 {
     words.statuses[to as usize] = word;
     counting::count_given(to, counters);
-    rows::moves(
+    Moved::to(
         Kind::OtherMove,
         places::done_place_at(w.home, w.domain, w.child),
     )
@@ -105,7 +105,7 @@ pub fn raise(w: Member, words: &mut State) -> Moved
     ensures kind_value { is_entry_number (number_of_kind result.kind) ≡ false }
 {
     words.grant = counting::next_number(words.grant);
-    rows::moves(
+    Moved::to(
         Kind::OtherMove,
         places::done_place_at(w.home, w.domain, w.child),
     )

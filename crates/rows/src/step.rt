@@ -7,7 +7,7 @@ ghost use Rattle.rows.specs.Step.OneStep.{Ready, StepDone};
 ghost use Rattle.rows.specs.Kinds.{number_of_kind};
 
 use crate::common::rows::Moved;
-use crate::common::{counting, places, rows};
+use crate::common::{counting, places};
 use crate::kinds::Kind;
 use crate::{acquire, release};
 use model::{Counters, Place, PlaceWords, State, TreeWords};
@@ -52,6 +52,6 @@ pub fn take(
             counting::count_shown(looked, tree.domains, shown, counters);
             release::raise(w, words)
         }
-        Place::Invalid => rows::at_place(Kind::Stay, place),
+        Place::Invalid => Moved::stay(place),
     }
 }

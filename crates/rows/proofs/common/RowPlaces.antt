@@ -4,21 +4,13 @@ use Rattle.model.specs.declared.PlaceWords.{PlaceWords}
 use Rattle.model.specs.declared.Place.{Place}
 use Rattle.model.specs.declared.Place.TheVariants.{Idle, Prep, Swap, Link, Wait, Inside, Check, Help, Cas, Linger, Grant, Draw, Watch, Raise, Invalid}
 use Rattle.model.specs.Places.{shape, shaped, place_of, words_of, place_domain}
-use Rattle.model.proofs.Places.{by_row, place_shaped, no_place}
+use Rattle.model.proofs.Places.{place_shaped}
 use Rattle.rows.specs.Common.Standing.{row_domain}
 
 -- the place with the shape of its row
 pub at_row :
     (q : PlaceWords) → place_of q ≢ Invalid → (k : ℕ) (x : Place) → shaped (shape k) q.domain q.peer q.word ≡ x → q.row ≡ k → x ≡ place_of q
 at_row q given k x e f = sym (place_shaped q given ∙ rw f e)
-
--- a place that is valid is in one of the rows
-pub no_other_row :
-    (q : PlaceWords) → (q.row ≡ 0 → ⊥) → (q.row ≡ 1 → ⊥) → (q.row ≡ 2 → ⊥) → (q.row ≡ 3 → ⊥) → (q.row ≡ 4 → ⊥) → (q.row ≡ 5 → ⊥) →
-    (q.row ≡ 6 → ⊥) → (q.row ≡ 7 → ⊥) → (q.row ≡ 8 → ⊥) → (q.row ≡ 9 → ⊥) → (q.row ≡ 10 → ⊥) → (q.row ≡ 11 → ⊥) → (q.row ≡ 12 → ⊥) →
-    (q.row ≡ 13 → ⊥) → place_of q ≢ Invalid → ⊥
-no_other_row q n₀ n₁ n₂ n₃ n₄ n₅ n₆ n₇ n₈ n₉ n₁₀ n₁₁ n₁₂ n₁₃ given =
-    by_row (λ k. q.row ≡ k → ⊥) q.row n₀ n₁ n₂ n₃ n₄ n₅ n₆ n₇ n₈ n₉ n₁₀ n₁₁ n₁₂ n₁₃ (λ m _. given (no_place q m)) refl
 
 -- the domain of a place, from the row and the domain in its words
 pub place_by_row : (h : ℕ) (p : Place) → p ≢ Invalid → row_domain h (words_of p).row (words_of p).domain ≡ place_domain h p

@@ -4,20 +4,8 @@ ghost use Rattle.model.specs.States.{wrap};
 ghost use Rattle.rows.specs.Common.Counting.{parent_in, RoomAbove, taken_in, record_domain_in, added_at, raised_at, Started, Climbed, is_watch_in, marked_in, Holding, Looked, ShownFor, CountedShown, Clear};
 ghost use Rattle.rows.specs.Common.Standing.{LeadsUp};
 
+use crate::common;
 use model::{Counters, PlaceWords, State, TreeWords};
-
-// The child domain whose record a thread uses at a domain; 0 if it uses its own record.
-fn taken_at(tree: &TreeWords, home: u8, l: u8) -> u8
-    requires leads_up { LeadsUp tree.now }
-    requires home_lt_domains { home < tree.now.domains }
-    ensures value { result ≡ taken_in tree.now.domains tree.now.parents home l }
-    ensures upper_bound { result < 64 }
-{
-    if l == home {
-        return 0;
-    }
-    refusals::paths::search_at(&tree.parents, tree.domains, home, l).child
-}
 
 // The domain that owns a record; 0 for a thread's record.
 fn record_domain(r: u16) -> u8
@@ -130,7 +118,7 @@ pub fn mark_shown(tree: &TreeWords, home: u8, q: PlaceWords, words: &State, show
     if !is_watch_at(q) {
         return;
     }
-    let c = taken_at(tree, home, 0);
+    let c = common::taken_at(tree, home, 0);
     let status = words.statuses[256 + c as usize];
     if status == u64::from(next_number(words.grant)) {
         shown[c as usize] = true;

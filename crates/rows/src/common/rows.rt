@@ -3,6 +3,7 @@ ghost use Rattle.std.specs.Prelude.{◌≡◌};
 ghost use Rattle.model.specs.States.{root_word};
 ghost use Rattle.model.specs.Places.{words_of};
 ghost use Rattle.rows.specs.Common.Rows.{moved};
+ghost use Rattle.rows.specs.declared.kinds.Kind.TheVariants.{Stay};
 
 use crate::common::places;
 use crate::kinds::Kind;
@@ -15,17 +16,26 @@ pub struct Moved {
     pub place: PlaceWords,
 }
 
-pub fn at_place(kind: Kind, place: PlaceWords) -> Moved
-    ensures { result ≡ moved kind place }
-{
-    Moved { kind, place }
-}
+impl Moved {
+    // The thread stays at its place.
+    pub fn stay(place: PlaceWords) -> Self
+        ensures { result ≡ moved Stay place }
+    {
+        Moved {
+            kind: Kind::Stay,
+            place,
+        }
+    }
 
-// A row that leads to a place.
-pub fn moves(kind: Kind, p: Place) -> Moved
-    ensures { result ≡ moved kind (words_of p) }
-{
-    at_place(kind, places::words_at(p))
+    // A step of a kind that leads to a place.
+    pub fn to(kind: Kind, place: Place) -> Self
+        ensures { result ≡ moved kind (words_of place) }
+    {
+        Moved {
+            kind,
+            place: places::words_at(place),
+        }
+    }
 }
 
 // One word for the root, another for other domains.

@@ -1,7 +1,8 @@
 -- `rows::common::places::place_by_row` meets its contract, row by row.
-use Rattle.std.proofs.Common.{refl}
+use Rattle.std.proofs.Common.{refl, arith}
 use Rattle.model.specs.declared.Place.TheVariants.{Idle, Prep, Swap, Link, Wait, Inside, Check, Help, Cas, Linger, Grant, Draw, Watch, Raise}
-use Rattle.rows.proofs.common.RowPlaces.{at_row, no_other_row}
+use Rattle.model.proofs.Places.{no_place}
+use Rattle.rows.proofs.common.RowPlaces.{at_row}
 use Rattle.rows.proofs.common.places.place_by_row.Goals as goal
 
 pub returns-in-0 : goal.returns-in-0
@@ -47,5 +48,4 @@ pub returns-in-13 : goal.returns-in-13
 returns-in-13 c = at_row _ c.requires 13 Raise refl c.in-13.is
 
 pub returns-in_default : goal.returns-in_default
-returns-in_default c = let r = c.in_default.in_default-own.rest in
-    absurd (no_other_row _ r.0.0.0.0.0.0.0.0.0.0.0.0.0.1 r.0.0.0.0.0.0.0.0.0.0.0.0.1 r.0.0.0.0.0.0.0.0.0.0.0.1 r.0.0.0.0.0.0.0.0.0.0.1 r.0.0.0.0.0.0.0.0.0.1 r.0.0.0.0.0.0.0.0.1 r.0.0.0.0.0.0.0.1 r.0.0.0.0.0.0.1 r.0.0.0.0.0.1 r.0.0.0.0.1 r.0.0.0.1 r.0.0.1 r.0.1 r.1 c.requires)
+returns-in_default c = absurd (c.requires (no_place _ (omega arith)))
