@@ -1,4 +1,3 @@
 -- What the code keeps for each thread while it counts. The definitions that the call meets are in `waits`.
 pub mod Tallies
 pub mod Waiting
-pub mod Reported

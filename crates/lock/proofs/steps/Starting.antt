@@ -2,17 +2,14 @@
 use mathlib.Core.Path.{◌≡◌, refl, sym, ap}
 use mathlib.Core.Bool.{Bool, true, false, not, cond}
 use Prim.Native.Nat.{ℕ, ◌<◌}
+use Rattle.model.specs.Counters.{lock_state, fresh_counters, fresh_lock}
 use native.Mathlib.Nat.{mod-eq_of_lt}
 use native.Mathlib.Omega.{arith}
 use lib.Dec.{eqb}
-use lib.ListN.{replicate, length-replicate}
-use Rattle.model.specs.Laws.{Typed}
-use Rattle.model.proofs.Laws.Form.{replicate_all}
-use Rattle.refusals.specs.Arrays.{lent_state}
 use Rattle.lock.specs.Steps.Running.{fresh_from, first_number}
 use Rattle.model.specs.declared.TreeWords.{TreeWords}
 use Rattle.model.specs.Trees.{tree_of}
-use Rattle.model.specs.States.{wrap, numbers_at, fresh_words, fresh_state}
+use Rattle.model.specs.States.{wrap, fresh_words, fresh_state}
 
 first_is : (n k v : ℕ) → v < 65536 → first_number n k v ≡ cond (not (eqb k 0)) (wrap (cond (eqb n 0) v 0)) 0
 first_is n k v h = by (eqb n 0) (eqb k 0)
@@ -32,21 +29,7 @@ pub fresh_from_zero : fresh_from 0 ≡ fresh_words
 unfolding fresh_words
 fresh_from_zero = refl
 
--- arrays of zeros are the fresh words, and fit their types
-pub zeros_fresh : lent_state (replicate 64 0) (replicate 320 0) (replicate 320 0) (replicate 256 0) (replicate 256 0) (replicate 256 0) (replicate 256 0) 0 0 ≡ fresh_words
+-- a fresh lock whose counters start at 0
+pub fresh_is_lock : lock_state (fresh_from 0) fresh_counters ≡ fresh_lock
 unfolding fresh_words
-zeros_fresh = refl
-
-pub zeros_typed : Typed (lent_state (replicate 64 0) (replicate 320 0) (replicate 320 0) (replicate 256 0) (replicate 256 0) (replicate 256 0) (replicate 256 0) 0 0)
-unfolding numbers_at
-zeros_typed =
-    record {
-      tails_room = length-replicate {A = ℕ} 64 0;
-      nexts_room = length-replicate {A = ℕ} 320 0;
-      statuses_room = length-replicate {A = ℕ} 320 0;
-      places_room = record { rows = length-replicate {A = ℕ} 256 0; domains = length-replicate {A = ℕ} 256 0; peers = length-replicate {A = ℕ} 256 0; words = length-replicate {A = ℕ} 256 0 };
-      statuses_fit = λ k. replicate_all (λ (x : ℕ). x < 18446744073709551616) 320 k 0 (omega arith);
-      ticket_fits = omega arith;
-      grant_fits = omega arith;
-      words_fit = λ k. replicate_all (λ (x : ℕ). x < 18446744073709551616) 256 k 0 (omega arith);
-    }
+fresh_is_lock = refl

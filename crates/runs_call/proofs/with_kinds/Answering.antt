@@ -8,7 +8,7 @@ use native.Mathlib.Decide.{ℕ_discrete}
 use lib.Dec.{ltb}
 use lib.ListN.{length, take, drop, get_or}
 use lib.Seq.{get_or-take, get_or-drop, ext_get_or}
-use borrow.Author.Tests.{ne_eqb, ltb-true, ltb-false}
+use borrow.Author.Tests.{eq-eqb, ne_eqb, ltb-true, ltb-false}
 use Rattle.model.specs.declared.TreeWords.{TreeWords}
 use Rattle.model.specs.declared.State.{State}
 use Rattle.model.specs.declared.Counters.{Counters}
@@ -16,19 +16,19 @@ use Rattle.model.specs.declared.Counts.{Counts}
 use Rattle.model.specs.declared.LockState.{LockState}
 use Rattle.model.specs.Trees.{Tree, tree_of}
 use Rattle.model.specs.Steps.{kind_number, Step, step}
-use Rattle.model.specs.Runs.{steps, state_after, run_of, run}
+use Rattle.model.specs.Runs.{steps, state_after, counts_of, run_of, run}
 use Rattle.model.specs.Counters.{lock_state, counters_after}
-use Rattle.model.specs.Refusals.{refusal, run_refusal}
-use Rattle.model.specs.Answers.{run_refused, run_reply, run_buffer}
+use Rattle.model.specs.Refusals.{Refusal, refusal, run_refusal}
+use Rattle.model.specs.Answers.{counters_after_run, no_counts, run_reply, run_buffer}
 use Rattle.model.specs.Laws.{Typed, Formed, FormLaw}
 use Rattle.model.proofs.Laws.Calls.{GoodRun, run_facts}
 use Rattle.model.proofs.Laws.Form.{form_law}
 use Rattle.model.proofs.Laws.Runs.{steps_length}
 use Rattle.model.proofs.Trees.Accepted.{sixteen_bit}
 use Rattle.rows.specs.Common.Standing.{row_domain}
-use Rattle.refusals.specs.declared.Refusal.{Refusal}
-use Rattle.refusals.specs.Arrays.{refusal_words}
-use Rattle.refusals.proofs.RunTests.{refusal_words_not, refusal_words_zero}
+use Rattle.refusals.specs.declared.reasons.Refusal as refusals
+use Rattle.refusals.specs.Reasons.{number_of}
+use Rattle.refusals.proofs.Refusing.{error_numbered}
 use Rattle.schedules.specs.Answers.{row_buffer}
 use Rattle.lock.specs.Steps.Running.{kinds_of, counts_by, trace_front, step_code, codes_front}
 use Rattle.lock.proofs.steps.Answering as steps_proofs
@@ -68,33 +68,47 @@ same_or_less j n C f g = by (ltb j n) refl
     by true e = f (ltb-true j n e)
     by false e = g (ltb-false j n e)
 
-module _ (w : TreeWords) (s : LockState) (is b rs : List ℕ) (r : Refusal) (e : r ≡ refusal_words (kinds_refusal (tree_of w) s is (length b) (length rs))) where
+module _ (w : TreeWords) (s : LockState) (is b rs : List ℕ) where
   abbrev t : Tree
   t = tree_of w
 
   abbrev xs : List Step
   xs = steps t is s.words
 
-  pub reported_refuses :
-      (r.number ≡ 0 → ⊥) → (y : KindsReply) → y ≡ with_rows (run_refused (refusal r.number r.place) s) 0 →
-      (y ≡ kinds_answer w s is b rs) × ((b ≡ kinds_trace w s is b rs) × (rs ≡ kinds_rows w s is b rs))
-  unfolding kinds_answer kinds_reply run_reply kinds_trace run_buffer kinds_rows row_buffer refused_by refusal
-  reported_refuses n y f =
-      let m = ne_eqb (kinds_refusal t s is (length b) (length rs)).number 0 (refusal_words_not r _ e n) in
-      (f ∙ rw (e, m), (rw m, rw m))
+  abbrev refused : Refusal
+  refused = kinds_refusal t s is (length b) (length rs)
 
-  module _ (z : r.number ≡ 0) where
+  module _ (n : refused.number ≡ 0 → ⊥) where
+    pub kept_state : s ≡ (kinds_answer w s is b rs).state
+    unfolding kinds_answer kinds_reply run_reply refused_by
+    kept_state = rw (ne_eqb refused.number 0 n)
+
+    pub kept_trace : b ≡ kinds_trace w s is b rs
+    unfolding kinds_trace run_buffer refused_by
+    kept_trace = rw (ne_eqb refused.number 0 n)
+
+    pub kept_rows : rs ≡ kinds_rows w s is b rs
+    unfolding kinds_rows row_buffer refused_by
+    kept_rows = rw (ne_eqb refused.number 0 n)
+
+  -- the reply with the state that is left
+  pub reply_refused : (x : refusals.Refusal) → refusal (number_of x.reason) x.place ≡ refused → (left : LockState) → left ≡ (kinds_answer w s is b rs).state →
+      record { number = number_of x.reason; place = x.place; counts = no_counts; rows = 0; state = left } ≡ kinds_answer w s is b rs
+  unfolding kinds_answer kinds_reply run_reply refused_by refusal
+  reply_refused x e left f = let m = ne_eqb refused.number 0 (error_numbered x e) in rw (f, m, sym e)
+
+  module _ (z : refused.number ≡ 0) where
     accepted : (refused_by w s is b rs).number ≡ 0
     unfolding refused_by
-    accepted = refusal_words_zero r _ e z
+    accepted = z
 
     -- the run itself is accepted, and the rows fit
-    pub as_run : r ≡ refusal_words (run_refusal t s is (length b))
+    pub as_run : (run_refusal t s is (length b)).number ≡ 0
     unfolding refused_by
-    as_run = e ∙ ap refusal_words (same_refusal w s is b rs (λ n. let m = sym accepted ∙ n in absurd (omega arith)))
+    as_run = ap (λ q. q.number) (sym (same_refusal w s is b rs (λ n. let m = sym accepted ∙ n in absurd (omega arith)))) ∙ z
 
     good : GoodRun t s is (length b)
-    good = run_facts t s is (length b) (refusal_words_zero r _ as_run z)
+    good = run_facts t s is (length b) as_run
 
     pub short : length is ≤ 65536
     short = good.short
@@ -167,12 +181,22 @@ module _ (w : TreeWords) (s : LockState) (is b rs : List ℕ) (r : Refusal) (e :
       rows_reported = ext_get_or 0 rows B (g.long ∙ ap length f ∙ reported_front_length rs xs ∙ sym (kinds_buffer_law w s is b rs).long) (λ j h. each j)
 
     -- THE REPLY AND THE TRACE are the run's
-    pub reported_answered :
-        (n : State) (b' kinds : List ℕ) (counts : Counts) (c : Counters) (m : ℕ) → n ≡ (run t is s.words).state → b' ≡ trace_front b (run t is s.words) →
-        kinds ≡ kinds_of xs → counts ≡ counts_by kinds → c ≡ counters_after t s.counters xs → m ≡ length is →
-        (record { number = 0; place = 0; counts = counts; rows = m; state = lock_state n c } ≡ kinds_answer w s is b rs) × (b' ≡ kinds_trace w s is b rs)
-    unfolding KindsRunLaw KindsBufferLaw
-    reported_answered n b' kinds counts c m g h k q counted q' =
-        let run_answer = steps_proofs.run_answered w s is b r as_run z n b' kinds counts c g h k q counted in
-        let same = kinds_run_law w s is b rs (λ n. let y = sym accepted ∙ n in absurd (omega arith)) in
-        (ap (λ y. with_rows y m) (run_answer.0 ∙ sym same.reply) ∙ ap (with_rows (record { number = (kinds_answer w s is b rs).number; place = (kinds_answer w s is b rs).place; counts = (kinds_answer w s is b rs).counts; state = (kinds_answer w s is b rs).state })) (q' ∙ sym ((kinds_buffer_law w s is b rs).rows_counted accepted)), run_answer.1 ∙ sym same.traced)
+    pub passed_trace : (b' : List ℕ) → b' ≡ trace_front b (run t is s.words) → b' ≡ kinds_trace w s is b rs
+    unfolding kinds_trace run_buffer refused_by
+    passed_trace b' h = h ∙ rw (eq-eqb refused.number 0 z)
+
+    pub passed_state : (left : LockState) → left.words ≡ (run t is s.words).state → left.counters ≡ counters_after t s.counters xs → left ≡ (kinds_answer w s is b rs).state
+    unfolding kinds_answer kinds_reply run_reply refused_by counters_after_run
+    passed_state left g f =
+        let p = eq-eqb refused.number 0 z in
+        let each : record { words = left.words; counters = left.counters } ≡ (kinds_answer w s is b rs).state = rw (g, f, p) in
+        each
+
+    pub steps_counted : (counts : Counts) → counts ≡ (run t is s.words).counts → counts.steps ≡ length is
+    unfolding run run_of counts_of
+    steps_counted counts k = ap (λ (c : Counts). c.steps) k ∙ steps_length t is s.words
+
+    pub reply_accepted : (counts : Counts) (m : ℕ) (left : LockState) → counts ≡ (run t is s.words).counts → m ≡ length is → left ≡ (kinds_answer w s is b rs).state →
+        record { number = 0; place = 0; counts = counts; rows = m; state = left } ≡ kinds_answer w s is b rs
+    unfolding kinds_answer kinds_reply run_reply refused_by
+    reply_accepted counts m left k q f = let p = eq-eqb refused.number 0 z in rw (f, k, q, p)

@@ -102,7 +102,8 @@ module _ (w : TreeWords) (s : LockState) (is b rs us : List ℕ) where
         let rows = stored (all_rows_from (tree_of w) us xs) rs rs' f (omega (arith, all_from_long (tree_of w) us xs, waits_pass.1.0)) in
         let long = numbers_long (tree_of w) us xs (tree_of w).threads in
         let numbers = stored (under_way_below (tree_of w) us (tree_of w).threads xs) (replicate 256 0) us' u (omega (arith, long, waits_threads_few, length-replicate {A = ℕ} 256 0)) in
-        (rw (g, c) ∙ rw p, (h ∙ rw p, (rows ∙ rw p, numbers ∙ rw (long, drop_zeros 256 (tree_of w).threads, p))))
+        let each : record { words = left.words; counters = left.counters } ≡ (waits_on_answer w s is b rs us).state = rw (g, c, p) in
+        (each, (h ∙ rw p, (rows ∙ rw p, numbers ∙ rw (long, drop_zeros 256 (tree_of w).threads, p))))
 
     pub reply_accepted : (counts : Counts) (left : LockState) → counts ≡ (run (tree_of w) is s.words).counts → left ≡ (waits_on_answer w s is b rs us).state →
         record { number = 0; place = 0; counts = counts; rows = (tree_of w).threads + 1; state = left } ≡ waits_on_answer w s is b rs us

@@ -1,20 +1,6 @@
 -- The run's loop reports one number per step; two numbers per step replace it.
 use Rattle.std.specs.Prelude.{◌≡◌, List, ℕ, ◌+◌, ◌*◌, ◌/◌, ◌%◌, ◌≤◌, ◌<◌, length, get_or}
-use Rattle.model.specs.declared.LockState.{LockState}
-use Rattle.model.specs.Counters.{lock_state}
-use Rattle.refusals.specs.Arrays.{lent_state}
-use Rattle.refusals.specs.OfRuns.Counts.{counters_in}
 use Rattle.rows.specs.Common.Standing.{row_domain}
-use Rattle.kinds.specs.declared.KindsReply.{KindsReply}
-use Rattle.runs_call.specs.declared.with_kinds.reporting.Reported.{Reported}
-
--- a lock state with these borrowed arrays
-abbrev pub lent_lock : (tails nexts statuses places domains peers words : List ℕ) → (ticket grant : ℕ) → (entries tenures longest : List ℕ) → LockState
-lent_lock ts ns vs rs ds ps ws v g es ms ls = lock_state (lent_state ts ns vs rs ds ps ws v g) (counters_in es ms ls)
-
--- a reply without the state
-abbrev pub reported_beside : KindsReply → Reported
-reported_beside r = record { number = r.number; place = r.place; counts = r.counts; rows = r.rows }
 
 -- each entry of a schedule is below 256, so it has a home
 pub record ThreadsFit (schedule : List ℕ) : Type 0 where
