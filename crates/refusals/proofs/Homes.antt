@@ -1,15 +1,15 @@
 -- Which bytes are not valid homes, in one pass over the parents.
 use mathlib.Core.Path.{◌≡◌, refl, sym, ap, ◌∙◌}
 use mathlib.Core.Bool.{Bool, true, false, ◌||◌, ◌&&◌, not, cond, true≢false, false≢true}
-use mathlib.Core.List.{List, [], ◌∷◌}
-use Prim.Native.Nat.{ℕ, ◌+◌, ◌≤◌, ◌<◌}
+use mathlib.Core.List.{List, [], ◌∷◌, ◌++◌}
+use Prim.Native.Nat.{ℕ, ◌+◌, ◌-◌, ◌≤◌, ◌<◌}
 use native.Mathlib.Numerals.{add-one}
 use native.Mathlib.Omega.{arith}
 use native.Mathlib.Decide.{ℕ_discrete}
 use lib.Dec.{eqb, leb}
-use lib.ListN.{get_or, set, length, replicate, length-set, length-replicate, get_or-replicate}
+use lib.ListN.{get_or, set, length, drop, replicate, length-set, length-replicate, get_or-replicate}
 use lib.Seq.{get_or-set_same, get_or-set_other}
-use borrow.Author.Tests.{eq-eqb, ne_eqb, lt-leb, le-leb, leb-true, leb-false}
+use borrow.Author.Tests.{eq-eqb, ne_eqb, leb-true, leb-false}
 use Rattle.model.specs.Scans.{any_below, all_below}
 use Rattle.model.specs.declared.TreeWords.{TreeWords}
 use Rattle.model.specs.Trees.{tree_of, is_child, is_leaf}
@@ -18,6 +18,7 @@ use Rattle.model.proofs.Tests.{or_right, any_found, all_each}
 use Rattle.model.proofs.Trees.Reading.{read_in}
 use Rattle.refusals.specs.Arrays.{parents_in, no_home_in, UnfitHomes, is_home_in, MarkedHomes, HomesAreLeaves}
 use Rattle.std.specs.List.{fold, zip}
+use Rattle.std.proofs.lemmas.List.{length-append, length-drop, get_or-drop, get_or_append_left, get_or-append_right}
 use Rattle.refusals.proofs.Ranges.{all_split}
 use Rattle.refusals.proofs.Reading.{parent_in, not_not}
 
@@ -26,29 +27,22 @@ pub record NoDomains (n : ℕ) (table : List Bool) : Type 0 where
   pub room : length table ≡ 256
   pub no_domain : (x : ℕ) → x < 256 → get_or table x false ≡ leb n x
 
-pub outside_first : NoDomains 0 (replicate 256 true)
-outside_first = record { room = refl; no_domain = λ x l. get_or-replicate 256 x true false l ∙ sym (le-leb 0 x (omega arith)) }
-
-leb_past : (d x : ℕ) → (x ≡ d → ⊥) → leb d x ≡ leb (d + 1) x
-leb_past d x e = by (leb d x) refl
-  where
-    by : (b : Bool) → leb d x ≡ b → leb d x ≡ leb (d + 1) x
-    by true f = let g = leb-true d x f in f ∙ sym (le-leb (d + 1) x (omega arith))
-    by false f = let g = leb-false d x f in f ∙ sym (lt-leb (d + 1) x (omega arith))
-
-pub outside_next : (d : ℕ) (bs : List Bool) → d < 256 → NoDomains d bs → NoDomains (d + 1) (set bs d false)
-outside_next d bs w N =
+pub no_domains : (n : ℕ) → n ≤ 256 → NoDomains n (replicate n false ++ drop n (replicate 256 true))
+no_domains n few =
     record {
-      room = length-set bs d false ∙ N.room;
-      no_domain = λ x h.
-          elim (ℕ_discrete x d) [
-            | yes e ↦ rw (e, lt-leb (d + 1) d (omega arith)) (get_or-set_same bs d false false (omega (arith, N.room)))
-            | no e ↦ get_or-set_other bs d x false false e ∙ N.no_domain x h ∙ leb_past d x e
-          ];
+      room = rw (length-append (replicate n false) (drop n (replicate 256 true)), length-replicate {A = Bool} n false, length-drop n (replicate 256 true), length-replicate {A = Bool} 256 true) (omega arith);
+      no_domain = λ x l. by x l (leb n x) refl;
     }
-
-pub outside_all : (n d : ℕ) (bs : List Bool) → d ≡ n → NoDomains d bs → NoDomains n bs
-outside_all n d bs e N = rw (← e) N
+  where
+    by : (x : ℕ) → x < 256 → (b : Bool) → leb n x ≡ b → get_or (replicate n false ++ drop n (replicate 256 true)) x false ≡ leb n x
+    by x l false e =
+        let h = leb-false n x e in
+        get_or_append_left (replicate n false) _ false x (rw (length-replicate {A = Bool} n false) h) ∙ get_or-replicate n x false false h ∙ sym e
+    by x l true e =
+        let h = leb-true n x e in
+        let back : n + (x - n) ≡ x = omega arith in
+        get_or-append_right (replicate n false) (drop n (replicate 256 true)) n x false (length-replicate {A = Bool} n false) h
+        ∙ get_or-drop n (replicate 256 true) (x - n) false ∙ ap (λ k. get_or (replicate 256 true) k false) back ∙ get_or-replicate 256 x true false l ∙ sym e
 
 or_none : (a b : Bool) → b ≡ false → a || b ≡ a
 or_none true b e = refl

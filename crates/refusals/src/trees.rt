@@ -74,9 +74,7 @@ pub(crate) fn unfit_homes(tree: &TreeWords) -> [bool; 256]
     ensures { UnfitHomes tree.now.domains tree.now.parents result }
 {
     let mut unfit = [true; 256];
-    for x in 0..tree.domains as usize {
-        unfit[x] = false;
-    }
+    unfit[..tree.domains as usize].fill(false);
     for d in 1..tree.domains {
         let p = usize::from(tree.parents[d as usize]);
         unfit[p] = true;
