@@ -22,10 +22,10 @@ use reasons::{Reason, Refusal};
 fn counts_refusal(tree: &TreeWords) -> Result<(), Refusal>
     ensures { refusal_of result ≡ first_refusal (count_tests (tree_of tree.now)) }
 {
-    if tree.domains == 0 || 64 < tree.domains {
+    if !(1..=64).contains(&tree.domains) {
         return Err(Reason::BadDomains.at(0));
     }
-    if tree.threads == 0 || 256 < tree.threads {
+    if !(1..=256).contains(&tree.threads) {
         return Err(Reason::BadThreads.at(0));
     }
     Ok(())
