@@ -9,15 +9,6 @@ use Rattle.model.specs.Places.{has_domain, has_peer, has_word}
 use Rattle.model.specs.Trees.{Tree, meets, is_record, owner_domain}
 use Rattle.refusals.specs.Paths.Records.{own_record_in}
 
--- the home of a thread; 255 if there is no such thread
-abbrev pub thread_owner : (threads : ℕ) → (homes : List ℕ) → (number : ℕ) → ℕ
-thread_owner m hs r = cond (ltb r m) (get_or hs r 0) 255
-
--- for each thread's record, its home, or 255
-pub record ThreadOwners (threads : ℕ) (homes owners : List ℕ) : Type 0 where
-  pub room : length owners ≡ 320
-  pub owner : (r : ℕ) → r < 320 → get_or owners r 0 ≡ thread_owner threads homes r
-
 -- for each record, the domain whose member owns it; 255 if no member does
 pub record Owners (t : Tree) (owners : List ℕ) : Type 0 where
   pub owner : (r : ℕ) → r < 320 → get_or owners r 0 ≡ cond (is_record t r) (owner_domain t r) 255
