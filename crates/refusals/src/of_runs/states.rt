@@ -1,10 +1,10 @@
 // The tests of the homes and of a given state, in a tree that 4 to 8 do not refuse.
 ghost use Rattle.std.specs.Prelude.{◌≡◌, true, ◌&&◌, ◌+◌, ◌<◌, ◌≤◌, leb, get_or};
 ghost use Rattle.model.specs.Scans.{all_below};
-ghost use Rattle.model.specs.Trees.{meets};
+ghost use Rattle.model.specs.Refusals.{tree_refusal};
+ghost use Rattle.model.specs.Trees.{tree_of, meets};
 ghost use Rattle.model.specs.States.{numbers_at};
-ghost use Rattle.refusals.specs.Arrays.{parents_in, Lower};
-ghost use Rattle.refusals.specs.OfRuns.Tables.{member_in, next_in, tail_and_next_in, peer_in, barred_in, domain_in, ticket_place_in, place_in, root_in, resting_row, HomesThere, used_in};
+ghost use Rattle.refusals.specs.OfRuns.Tables.{member_in, next_in, tail_and_next_in, peer_in, barred_in, domain_in, ticket_place_in, place_in, root_in, resting_row, RestMarks, HomesThere, used_in};
 ghost use Rattle.refusals.specs.Paths.Records.{own_record_in};
 
 use crate::of_runs::shapes::{CHECK, GRANT, IDLE, RAISE, WAIT, WATCH};
@@ -54,10 +54,9 @@ pub(crate) fn good_domains(owners: &[u8; 320], domains: u32, words: &State) -> b
 
 // Whether going up from a domain reaches another.
 fn meets_at(tree: &TreeWords, from: u8, d: u8) -> bool
-    requires domains_bound { tree.now.domains ≤ 64 }
-    requires lower { Lower tree.now.domains tree.now.parents }
-    requires from_lt_domains { from < tree.now.domains }
-    ensures { result ≡ meets 6 (parents_in tree.now.domains tree.now.parents) from d }
+    requires accepted { (tree_refusal (tree_of tree.now)).number ≡ 0 }
+    requires from_there { from < tree.now.domains }
+    ensures { result ≡ meets 6 (tree_of tree.now) from d }
 {
     let mut c = from;
     for _level in 0..6u32 {
@@ -73,25 +72,26 @@ fn meets_at(tree: &TreeWords, from: u8, d: u8) -> bool
 }
 
 // The root in Check, or a ticket root in any place of a queue.
-fn is_barred_at(ticket_root: u32, row: u8, l: u8) -> bool
-    ensures { result ≡ barred_in ticket_root row l }
+#[tactic(auto, unfolding(model::specs::Trees::tree_of))]
+fn is_barred_at(tree: &TreeWords, row: u8, l: u8) -> bool
+    ensures { result ≡ barred_in (tree_of tree.now) row l }
 {
-    l == 0 && (row == CHECK || ticket_root != 0)
+    l == 0 && (row == CHECK || tree.ticket_root != 0)
 }
 
 // Whether the status of a thread's record at the root is at most 65,535.
 fn is_status_low(tree: &TreeWords, statuses: &[u64; 320], i: u16, home: u8) -> bool
-    requires domains_bound { (tree.now.domains ≤ 64) × (i < 256) }
-    requires lower { Lower tree.now.domains tree.now.parents }
-    requires home_lt_domains { home < tree.now.domains }
-    ensures { result ≡ leb (get_or statuses.now (own_record_in (parents_in tree.now.domains tree.now.parents) i home 0) 0) 65535 }
+    requires accepted { (tree_refusal (tree_of tree.now)).number ≡ 0 }
+    requires thread_there { i < tree.now.threads }
+    requires home_there { home < tree.now.domains }
+    ensures { result ≡ leb (get_or statuses.now (own_record_in (tree_of tree.now) i home 0) 0) 65535 }
 {
     let r = crate::paths::record_at(&tree.parents, tree.domains, i, home, 0);
     statuses[usize::from(r)] <= 65535
 }
 
 // Draw, Watch and Raise: only at a ticket root, with a watched status of at most 65,535.
-#[tactic(auto, unfolding(crate::specs::OfRuns::Tables::ticket_place_in))]
+#[tactic(auto, unfolding(crate::specs::OfRuns::Tables::ticket_place_in, model::specs::Trees::tree_of))]
 fn good_ticket_place_at(
     tree: &TreeWords,
     statuses: &[u64; 320],
@@ -99,10 +99,10 @@ fn good_ticket_place_at(
     home: u8,
     q: PlaceWords,
 ) -> bool
-    requires domains_bound { (tree.now.domains ≤ 64) × (i < 256) }
-    requires lower { Lower tree.now.domains tree.now.parents }
-    requires home_lt_domains { home < tree.now.domains }
-    ensures { result ≡ ticket_place_in tree.now.ticket_root (parents_in tree.now.domains tree.now.parents) statuses.now i home q }
+    requires accepted { (tree_refusal (tree_of tree.now)).number ≡ 0 }
+    requires thread_there { i < tree.now.threads }
+    requires home_there { home < tree.now.domains }
+    ensures { result ≡ ticket_place_in (tree_of tree.now) statuses.now i home q }
 {
     tree.ticket_root != 0
         && q.row <= RAISE
@@ -113,10 +113,11 @@ fn good_ticket_place_at(
 }
 
 // No tail at a ticket root, no counters at a queue root.
-pub(crate) fn good_root_at(ticket_root: u32, words: &State) -> bool
-    ensures { result ≡ root_in ticket_root (get_or words.now.tails 0 0) words.now.ticket words.now.grant }
+#[tactic(auto, unfolding(model::specs::Trees::tree_of))]
+pub(crate) fn good_root_at(tree: &TreeWords, words: &State) -> bool
+    ensures { result ≡ root_in (tree_of tree.now) (get_or words.now.tails 0 0) words.now.ticket words.now.grant }
 {
-    if ticket_root == 0 {
+    if tree.ticket_root == 0 {
         return words.ticket == 0 && words.grant == 0;
     }
     words.tails[0] == 0
@@ -132,12 +133,11 @@ fn good_peer_at(owners: &[u8; 320], row: u8, l: u8, peer: u16) -> bool
 }
 
 fn good_domain_at(tree: &TreeWords, owners: &[u8; 320], home: u8, q: PlaceWords) -> bool
-    requires domains_bound { tree.now.domains ≤ 64 }
-    requires lower { Lower tree.now.domains tree.now.parents }
-    requires home_lt_domains { home < tree.now.domains }
-    ensures { result ≡ domain_in tree.now.ticket_root (parents_in tree.now.domains tree.now.parents) owners.now home q.row q.domain q.peer }
+    requires accepted { (tree_refusal (tree_of tree.now)).number ≡ 0 }
+    requires home_there { home < tree.now.domains }
+    ensures { result ≡ domain_in (tree_of tree.now) owners.now home q.row q.domain q.peer }
 {
-    !is_barred_at(tree.ticket_root, q.row, q.domain)
+    !is_barred_at(tree, q.row, q.domain)
         && meets_at(tree, home, q.domain)
         && good_peer_at(owners, q.row, q.domain, q.peer)
 }
@@ -151,10 +151,10 @@ fn good_place_at(
     home: u8,
     q: PlaceWords,
 ) -> bool
-    requires domains_bound { (tree.now.domains ≤ 64) × (i < 256) }
-    requires lower { Lower tree.now.domains tree.now.parents }
-    requires home_lt_domains { home < tree.now.domains }
-    ensures { result ≡ place_in tree.now.ticket_root (parents_in tree.now.domains tree.now.parents) owners.now statuses.now i home q }
+    requires accepted { (tree_refusal (tree_of tree.now)).number ≡ 0 }
+    requires thread_there { i < tree.now.threads }
+    requires home_there { home < tree.now.domains }
+    ensures { result ≡ place_in (tree_of tree.now) owners.now statuses.now i home q }
 {
     if GRANT < q.row {
         return good_ticket_place_at(tree, statuses, i, home, q);
@@ -169,8 +169,9 @@ fn good_place_at(
 }
 
 // The row of the threads that rest.
+#[tactic(auto, unfolding(model::specs::Trees::tree_of))]
 pub(crate) fn resting_row_of(tree: &TreeWords) -> u8
-    ensures { result ≡ resting_row tree.now.ticket_root tree.now.domains }
+    ensures { result ≡ resting_row (tree_of tree.now) }
 {
     if tree.ticket_root != 0 && tree.domains == 1 {
         return IDLE;
@@ -186,11 +187,11 @@ fn good_thread_at(
     words: &State,
     i: u16,
 ) -> bool
-    requires count_bound { (tree.now.domains ≤ 64) × (i < 256) }
-    requires lower { Lower tree.now.domains tree.now.parents }
-    requires i_bound { get_or owners.now i 0 < tree.now.domains }
-    requires q_value { get_or marks.now i 0 ≡ 0 → place_in tree.now.ticket_root (parents_in tree.now.domains tree.now.parents) owners.now words.now.statuses i (get_or owners.now i 0) (numbers_at words.now.places i) ≡ true }
-    ensures { result ≡ used_in tree.now.ticket_root (parents_in tree.now.domains tree.now.parents) owners.now words.now.statuses i (numbers_at words.now.places i) (get_or words.now.nexts i 0) }
+    requires accepted { (tree_refusal (tree_of tree.now)).number ≡ 0 }
+    requires thread_there { i < tree.now.threads }
+    requires homes_there { HomesThere tree.now owners.now }
+    requires marks_there { RestMarks tree.now.threads (resting_row (tree_of tree.now)) owners.now words.now.places marks.now }
+    ensures { result ≡ used_in (tree_of tree.now) owners.now words.now.statuses i (numbers_at words.now.places i) (get_or words.now.nexts i 0) }
 {
     let at = usize::from(i);
     let home = owners[at];
@@ -206,11 +207,9 @@ fn good_thread_at(
 
 // The words of each thread.
 pub(crate) fn good_threads(tree: &TreeWords, owners: &[u8; 320], words: &State) -> bool
-    requires count_bound { (tree.now.domains ≤ 64) × (tree.now.threads ≤ 256) }
-    requires lower { Lower tree.now.domains tree.now.parents }
-    requires homes_there { HomesThere tree.now.ticket_root tree.now.domains tree.now.threads owners.now }
-    ensures { let t = parents_in tree.now.domains tree.now.parents in
-        result ≡ all_below tree.now.threads (λ i. used_in tree.now.ticket_root t owners.now words.now.statuses i (numbers_at words.now.places i) (get_or words.now.nexts i 0)) }
+    requires accepted { (tree_refusal (tree_of tree.now)).number ≡ 0 }
+    requires homes_there { HomesThere tree.now owners.now }
+    ensures { result ≡ all_below tree.now.threads (λ i. used_in (tree_of tree.now) owners.now words.now.statuses i (numbers_at words.now.places i) (get_or words.now.nexts i 0)) }
 {
     let mut marks = [0u8; 256];
     let row = resting_row_of(tree);
