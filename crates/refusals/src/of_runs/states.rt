@@ -52,64 +52,12 @@ pub(crate) fn good_domains(owners: &[u8; 320], domains: u32, words: &State) -> b
     true
 }
 
-// Whether going up from a domain reaches another.
-fn meets_at(tree: &TreeWords, from: u8, d: u8) -> bool
-    requires accepted { (tree_refusal (tree_of tree.now)).number ≡ 0 }
-    requires from_there { from < tree.now.domains }
-    ensures { result ≡ meets 6 (tree_of tree.now) from d }
-{
-    let mut c = from;
-    for _level in 0..6u32 {
-        if c == d {
-            return true;
-        }
-        if c == 0 {
-            return false;
-        }
-        c = tree.parents[usize::from(c)];
-    }
-    c == d
-}
-
 // The root in Check, or a ticket root in any place of a queue.
 #[tactic(auto, unfolding(model::specs::Trees::tree_of))]
 fn is_barred_at(tree: &TreeWords, row: u8, l: u8) -> bool
     ensures { result ≡ barred_in (tree_of tree.now) row l }
 {
     l == 0 && (row == CHECK || tree.ticket_root != 0)
-}
-
-// Whether the status of a thread's record at the root is at most 65,535.
-fn is_status_low(tree: &TreeWords, statuses: &[u64; 320], i: u16, home: u8) -> bool
-    requires accepted { (tree_refusal (tree_of tree.now)).number ≡ 0 }
-    requires thread_there { i < tree.now.threads }
-    requires home_there { home < tree.now.domains }
-    ensures { result ≡ leb (get_or statuses.now (own_record_in (tree_of tree.now) i home 0) 0) 65535 }
-{
-    let r = crate::paths::record_at(&tree.parents, tree.domains, i, home, 0);
-    statuses[usize::from(r)] <= 65535
-}
-
-// Draw, Watch and Raise: only at a ticket root, with a watched status of at most 65,535.
-#[tactic(auto, unfolding(crate::specs::OfRuns::Tables::ticket_place_in, model::specs::Trees::tree_of))]
-fn good_ticket_place_at(
-    tree: &TreeWords,
-    statuses: &[u64; 320],
-    i: u16,
-    home: u8,
-    q: PlaceWords,
-) -> bool
-    requires accepted { (tree_refusal (tree_of tree.now)).number ≡ 0 }
-    requires thread_there { i < tree.now.threads }
-    requires home_there { home < tree.now.domains }
-    ensures { result ≡ ticket_place_in (tree_of tree.now) statuses.now i home q }
-{
-    tree.ticket_root != 0
-        && q.row <= RAISE
-        && q.word == 0
-        && q.domain == 0
-        && q.peer == 0
-        && (q.row != WATCH || is_status_low(tree, statuses, i, home))
 }
 
 // No tail at a ticket root, no counters at a queue root.
@@ -132,40 +80,82 @@ fn good_peer_at(owners: &[u8; 320], row: u8, l: u8, peer: u16) -> bool
     peer == 0
 }
 
-fn good_domain_at(tree: &TreeWords, owners: &[u8; 320], home: u8, q: PlaceWords) -> bool
-    requires accepted { (tree_refusal (tree_of tree.now)).number ≡ 0 }
-    requires home_there { home < tree.now.domains }
-    ensures { result ≡ domain_in (tree_of tree.now) owners.now home q.row q.domain q.peer }
-{
-    !is_barred_at(tree, q.row, q.domain)
-        && meets_at(tree, home, q.domain)
-        && good_peer_at(owners, q.row, q.domain, q.peer)
+// A thread of a tree that 4 to 9 and 16 do not refuse, as the tests of its place read it.
+#[derive(Clone, Copy)]
+struct Thread<'a> {
+    tree: &'a TreeWords,
+    number: u16,
+    home: u8,
+    ghost accepted: { (tree_refusal (tree_of tree.now)).number ≡ 0 },
+    ghost there: { number < tree.now.threads },
+    ghost home_there: { home < tree.now.domains },
 }
 
-#[tactic(auto, unfolding(crate::specs::OfRuns::Tables::place_in))]
-fn good_place_at(
-    tree: &TreeWords,
-    owners: &[u8; 320],
-    statuses: &[u64; 320],
-    i: u16,
-    home: u8,
-    q: PlaceWords,
-) -> bool
-    requires accepted { (tree_refusal (tree_of tree.now)).number ≡ 0 }
-    requires thread_there { i < tree.now.threads }
-    requires home_there { home < tree.now.domains }
-    ensures { result ≡ place_in (tree_of tree.now) owners.now statuses.now i home q }
-{
-    if GRANT < q.row {
-        return good_ticket_place_at(tree, statuses, i, home, q);
+impl Thread<'_> {
+    // Whether a domain is on the thread's path.
+    fn passes(&self, d: u8) -> bool
+        ensures { result ≡ meets 6 (tree_of self.now.tree.now) self.now.home d }
+    {
+        let tree = self.tree;
+        let mut c = self.home;
+        for _level in 0..6u32 {
+            if c == d {
+                return true;
+            }
+            if c == 0 {
+                return false;
+            }
+            c = tree.parents[usize::from(c)];
+        }
+        c == d
     }
-    if shapes::has_spare_word(q.row, q.word) {
-        return false;
+
+    // Whether the status of the thread's record at the root is at most 65,535.
+    fn is_status_low(&self, statuses: &[u64; 320]) -> bool
+        ensures { result ≡ leb (get_or statuses.now (own_record_in (tree_of self.now.tree.now) self.now.number self.now.home 0) 0) 65535 }
+    {
+        let tree = self.tree;
+        let r = crate::paths::record_at(&tree.parents, tree.domains, self.number, self.home, 0);
+        statuses[usize::from(r)] <= 65535
     }
-    if shapes::has_domain(q.row) {
-        return good_domain_at(tree, owners, home, q);
+
+    // Draw, Watch and Raise: only at a ticket root, with a watched status of at most 65,535.
+    #[tactic(auto, unfolding(crate::specs::OfRuns::Tables::ticket_place_in, model::specs::Trees::tree_of))]
+    fn has_good_ticket_place(&self, statuses: &[u64; 320], q: PlaceWords) -> bool
+        ensures { result ≡ ticket_place_in (tree_of self.now.tree.now) statuses.now self.now.number self.now.home q }
+    {
+        self.tree.ticket_root != 0
+            && q.row <= RAISE
+            && q.word == 0
+            && q.domain == 0
+            && q.peer == 0
+            && (q.row != WATCH || self.is_status_low(statuses))
     }
-    q.domain == 0 && q.peer == 0
+
+    // A domain on the path where the row may be, and a record that fits the row.
+    fn has_good_domain(&self, owners: &[u8; 320], q: PlaceWords) -> bool
+        ensures { result ≡ domain_in (tree_of self.now.tree.now) owners.now self.now.home q.row q.domain q.peer }
+    {
+        !is_barred_at(self.tree, q.row, q.domain)
+            && self.passes(q.domain)
+            && good_peer_at(owners, q.row, q.domain, q.peer)
+    }
+
+    #[tactic(auto, unfolding(crate::specs::OfRuns::Tables::place_in))]
+    fn has_good_place(&self, owners: &[u8; 320], statuses: &[u64; 320], q: PlaceWords) -> bool
+        ensures { result ≡ place_in (tree_of self.now.tree.now) owners.now statuses.now self.now.number self.now.home q }
+    {
+        if GRANT < q.row {
+            return self.has_good_ticket_place(statuses, q);
+        }
+        if shapes::has_spare_word(q.row, q.word) {
+            return false;
+        }
+        if shapes::has_domain(q.row) {
+            return self.has_good_domain(owners, q);
+        }
+        q.domain == 0 && q.peer == 0
+    }
 }
 
 // The row of the threads that rest.
@@ -201,8 +191,13 @@ fn good_thread_at(
     if marks[at] == 0 {
         return true;
     }
+    let thread = Thread {
+        tree,
+        number: i,
+        home,
+    };
     let q = places::place_at(&words.places, at);
-    good_place_at(tree, owners, &words.statuses, i, home, q)
+    thread.has_good_place(owners, &words.statuses, q)
 }
 
 // The words of each thread.
