@@ -49,18 +49,17 @@ fn mark_block(
 
 // The marks of all threads: 0 only for a thread that rests.
 pub(crate) fn mark_threads(
-    marks: &mut [u8; 256],
     owners: &[u8; 320],
     threads: u32,
     resting: u8,
     places: &PlaceArrays,
-)
+) -> [u8; 256]
     requires { threads ≤ 256 }
-    ensures { RestMarks threads resting owners.now places.now marks.new }
+    ensures { RestMarks threads resting owners.now places.now result }
 {
-    marks.fill(0);
-    let blocks = (threads as usize).div_ceil(32);
-    for block in 0..blocks {
-        mark_block(marks, owners, block * 32, resting, places);
+    let mut marks = [0u8; 256];
+    for block in 0..(threads as usize).div_ceil(32) {
+        mark_block(&mut marks, owners, block * 32, resting, places);
     }
+    marks
 }

@@ -206,9 +206,8 @@ pub(crate) fn good_threads(tree: &TreeWords, owners: &[u8; 320], words: &State) 
     requires homes_there { HomesThere tree.now owners.now }
     ensures { result ≡ all_below tree.now.threads (λ i. used_in (tree_of tree.now) owners.now words.now.statuses i (numbers_at words.now.places i) (get_or words.now.nexts i 0)) }
 {
-    let mut marks = [0u8; 256];
-    let row = resting_row_of(tree);
-    marks::mark_threads(&mut marks, owners, tree.threads, row, &words.places);
+    let resting = resting_row_of(tree);
+    let marks = marks::mark_threads(owners, tree.threads, resting, &words.places);
     for i in 0..tree.threads as u16 {
         if !good_thread_at(tree, owners, &marks, words, i) {
             return false;

@@ -8,7 +8,7 @@ use borrow.Author.Rules.{rules}
 use Rattle.refusals.proofs.of_runs.states.good_threads.Goals as goal
 
 pub good_thread_at-requires-clause-marks_there : goal.good_thread_at-requires-clause-marks_there
-good_thread_at-requires-clause-marks_there c = rw c.resting_row_of-row.ensures at c.mark_threads.ensures
+good_thread_at-requires-clause-marks_there c = rw c.resting_row_of-resting.ensures at c.mark_threads-marks.ensures
 
 pub returns-then-not-good_thread_at : goal.returns-then-not-good_thread_at
 returns-then-not-good_thread_at c = sym (all_fails _ _ c.loop-i.i (omega arith) (by_answer _ false c.good_thread_at.ensures (search rules)))
