@@ -11,13 +11,6 @@ use crate::of_runs::shapes::{CHECK, GRANT, IDLE, RAISE, WAIT, WATCH};
 use crate::of_runs::{marks, places, shapes};
 use model::{PlaceWords, State, TreeWords};
 
-// The tail of a domain, and the next of its record, given the domain of which it is a member.
-fn good_domain_words_at(owners: &[u8; 320], d: u8, tail: u16, owner: u8, next: u16) -> bool
-    ensures { result ≡ next_in owners.now d tail && next_in owners.now owner next }
-{
-    good_next_at(owners, d, tail) && good_next_at(owners, owner, next)
-}
-
 fn is_member_at(owners: &[u8; 320], d: u8, r: u16) -> bool
     ensures { result ≡ member_in owners.now d r }
 {
@@ -31,21 +24,24 @@ fn good_next_at(owners: &[u8; 320], d: u8, next: u16) -> bool
     next == 0 || is_member_at(owners, d, next - 1)
 }
 
+// The tail of a domain, and the next of its record; the table names the domain whose member the record belongs to.
+fn good_domain_at(owners: &[u8; 320], words: &State, d: u8) -> bool
+    requires { d < 64 }
+    ensures { result ≡ tail_and_next_in owners.now d (get_or words.now.tails d 0) (get_or words.now.nexts (256 + d) 0) }
+{
+    let at = usize::from(d);
+    let record = 256 + at;
+    good_next_at(owners, d, words.tails[at])
+        && good_next_at(owners, owners[record], words.nexts[record])
+}
+
 // The tail of each domain of the tree, and the next of its record; the root has no record.
 pub(crate) fn good_domains(owners: &[u8; 320], domains: u32, words: &State) -> bool
     requires { domains ≤ 64 }
     ensures { result ≡ all_below domains (λ d. tail_and_next_in owners.now d (get_or words.now.tails d 0) (get_or words.now.nexts (256 + d) 0)) }
 {
     for d in 0..domains as u8 {
-        let at = usize::from(d);
-        let record = 256 + at;
-        if !good_domain_words_at(
-            owners,
-            d,
-            words.tails[at],
-            owners[record],
-            words.nexts[record],
-        ) {
+        if !good_domain_at(owners, words, d) {
             return false;
         }
     }
