@@ -1,4 +1,5 @@
 // Which threads need a test of their place. Marks are computed for 32 threads at once, without an early exit, so that the compiler can compare many numbers at once.
+// Kept: a mark is a number, not a Boolean, for the same reason.
 ghost use Rattle.std.specs.Prelude.{◌≡◌, ◌&&◌, ◌+◌, ◌≤◌, eqb};
 ghost use Rattle.refusals.specs.OfRuns.Tables.{zeros_between, row_rests_in, RestMarks};
 

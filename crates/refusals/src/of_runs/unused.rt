@@ -4,8 +4,8 @@ ghost use Rattle.refusals.specs.OfRuns.Tables.{zeros_between, places_clear, reco
 
 use model::{PlaceArrays, State, TreeWords};
 
-// Kept: three functions for 8-bit, 16-bit and 64-bit numbers. One generic function needs a trait with three impls, which is longer.
 // Whether all these numbers are 0.
+// Kept: three functions, for 8-bit, 16-bit and 64-bit numbers: one generic function needs a trait with three impls, which is longer.
 fn are_zero_bytes(values: &[u8], from: usize, to: usize) -> bool
     requires { (from ≤ to) × (to ≤ length values.now) }
     ensures { result ≡ zeros_between from to values.now }
