@@ -7,6 +7,7 @@ use crate::of_runs::unused;
 use model::PlaceArrays;
 
 // 0 if the row and the domain of a place are those of a thread that rests.
+#[tactic(auto, using(crate::proofs::of_runs::Marking::idle_mark, crate::proofs::of_runs::Marking::other_mark))]
 fn row_mark(resting: u8, home: u8, row: u8, domain: u8) -> u8
     ensures { eqb result 0 ≡ row_rests_in resting home row domain }
 {

@@ -36,6 +36,7 @@ fn good_domain_at(owners: &[u8; 320], words: &State, d: u8) -> bool
 }
 
 // The tail of each domain of the tree, and the next of its record; the root has no record.
+#[tactic(auto, using(crate::proofs::Scanning::one_more, model::proofs::Tests::all_true))]
 pub(crate) fn good_domains(owners: &[u8; 320], domains: u32, words: &State) -> bool
     requires { domains ≤ 64 }
     ensures { result ≡ all_below domains (λ d. tail_and_next_in owners.now d (get_or words.now.tails d 0) (get_or words.now.nexts (256 + d) 0)) }
@@ -197,6 +198,7 @@ fn good_thread_at(
 }
 
 // The words of each thread.
+#[tactic(auto, using(crate::proofs::Scanning::one_more, model::proofs::Tests::all_true))]
 pub(crate) fn good_threads(tree: &TreeWords, owners: &[u8; 320], words: &State) -> bool
     requires accepted { (tree_refusal (tree_of tree.now)).number ≡ 0 }
     requires homes_there { HomesThere tree.now owners.now }
