@@ -22,7 +22,7 @@ fn is_well_formed(tree: &TreeWords, words: &State) -> bool
     ensures { result ≡ well_formed (tree_of tree.now) words.now }
 {
     let owners = owners::owners_of(tree);
-    states::good_root_at(tree.ticket_root, words)
+    states::good_root_at(tree, words)
         && unused::is_clear(tree, words)
         && states::good_domains(&owners, tree.domains, words)
         && states::good_threads(tree, &owners, words)

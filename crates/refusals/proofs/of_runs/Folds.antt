@@ -41,12 +41,13 @@ zeros_first (suc n) l h =
     let more : suc n ≡ n + 1 = omega arith in
     rw (more, fold_more bit_or 0 l n 0 (omega arith), or_zero (fold bit_or 0 (take n l)) (get_or l n 0), zeros_first n l (omega arith))
 
-pub zeros_folded : (a b : ℕ) (l : List ℕ) → b ≤ length l → eqb (fold bit_or 0 (slice_range l a b)) 0 ≡ zeros_between a b l
+-- the fold over the numbers between two indices
+pub zeros_folded : (r a b : ℕ) (l : List ℕ) → b ≤ length l → r ≡ fold bit_or 0 (slice_range l a b) → eqb r 0 ≡ zeros_between a b l
 unfolding zeros_between
-zeros_folded a b l h =
+zeros_folded r a b l h e =
     let long = length-drop a l in
-    zeros_first (b - a) (drop a l) (omega (arith, long))
-    ∙ all_same (b - a) (λ k. eqb (get_or (drop a l) k 0) 0) (λ k. eqb (get_or l (a + k) 0) 0) (λ k w. ap (λ x. eqb x 0) (get_or-drop a l k 0))
+    rw e (zeros_first (b - a) (drop a l) (omega (arith, long))
+    ∙ all_same (b - a) (λ k. eqb (get_or (drop a l) k 0) 0) (λ k. eqb (get_or l (a + k) 0) 0) (λ k w. ap (λ x. eqb x 0) (get_or-drop a l k 0)))
 
 -- from the test of all to each number, and back
 pub zero_there : (a b : ℕ) (l : List ℕ) → zeros_between a b l ≡ true → (j : ℕ) → a ≤ j → j < b → get_or l j 0 ≡ 0

@@ -45,12 +45,15 @@ module _ (w : TreeWords) (some : 0 < w.domains) (few : w.domains ≤ 64) (small 
   threaded_home : (r : ℕ) → r < w.threads → get_or threaded r 0 ≡ get_or w.homes r 0
   threaded_home r l = search (rules, places)
 
+  abbrev empty : List ℕ
+  empty = replicate 320 255
+
   threaded_none : (r : ℕ) → w.threads ≤ r → r < 320 → get_or threaded r 0 ≡ 255
   threaded_none r g l =
       let long : length (take w.threads w.homes) ≡ w.threads = search (rules, places) in
       let on : w.threads + (r - w.threads) ≡ r = omega arith in
-      get_or-append_right (take w.threads w.homes) (drop w.threads (replicate 320 255)) w.threads r 0 long g
-      ∙ get_or-drop w.threads (replicate 320 255) (r - w.threads) 0 ∙ rw on (get_or-replicate 320 r 255 0 l)
+      rw (get_or-append_right (take w.threads w.homes) (drop w.threads empty) w.threads r 0 long g, get_or-drop w.threads empty (r - w.threads) 0, on)
+      (get_or-replicate 320 r 255 0 l)
 
   hung_parent : (d : ℕ) → 0 < d → d < w.domains → get_or hung (256 + d - 257) 0 ≡ get_or w.parents d 0
   hung_parent d p l = let z : 256 + d - 257 ≡ d - 1 = omega arith in search (rules, places)

@@ -1,4 +1,5 @@
 // Which threads need a test of their place. Marks are computed for 32 threads at once, without an early exit, so that the compiler can compare many numbers at once.
+// Kept: a mark is a number, not a Boolean, for the same reason.
 ghost use Rattle.std.specs.Prelude.{◌≡◌, ◌&&◌, ◌+◌, ◌≤◌, eqb};
 ghost use Rattle.refusals.specs.OfRuns.Tables.{zeros_between, row_rests_in, RestMarks};
 
@@ -6,6 +7,7 @@ use crate::of_runs::unused;
 use model::PlaceArrays;
 
 // 0 if the row and the domain of a place are those of a thread that rests.
+#[tactic(auto, using(crate::proofs::of_runs::Marking::idle_mark, crate::proofs::of_runs::Marking::other_mark))]
 fn row_mark(resting: u8, home: u8, row: u8, domain: u8) -> u8
     ensures { eqb result 0 ≡ row_rests_in resting home row domain }
 {
@@ -49,18 +51,17 @@ fn mark_block(
 
 // The marks of all threads: 0 only for a thread that rests.
 pub(crate) fn mark_threads(
-    marks: &mut [u8; 256],
     owners: &[u8; 320],
     threads: u32,
     resting: u8,
     places: &PlaceArrays,
-)
+) -> [u8; 256]
     requires { threads ≤ 256 }
-    ensures { RestMarks threads resting owners.now places.now marks.new }
+    ensures { RestMarks threads resting owners.now places.now result }
 {
-    marks.fill(0);
-    let blocks = (threads as usize).div_ceil(32);
-    for block in 0..blocks {
-        mark_block(marks, owners, block * 32, resting, places);
+    let mut marks = [0u8; 256];
+    for block in 0..(threads as usize).div_ceil(32) {
+        mark_block(&mut marks, owners, block * 32, resting, places);
     }
+    marks
 }

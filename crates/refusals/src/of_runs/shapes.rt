@@ -1,8 +1,10 @@
-// The rows of the step table that a test names, and which parts a place has in addition to its row, by the model's table of rows.
+// Which parts a place has in addition to its row, by the model's table of rows.
 ghost use Rattle.std.specs.Prelude.{◌≡◌};
 ghost use Rattle.model.specs.Places.{has_domain, has_peer, has_word};
 ghost use Rattle.refusals.specs.OfRuns.Tables.{spare_word_in};
 
+// The rows that a test names.
+// Kept: numbers, not an enum, since the arrays of a state have numbers, also above those of the rows.
 pub(crate) const IDLE: u8 = 0;
 
 const LINK: u8 = 3;

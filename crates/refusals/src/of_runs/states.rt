@@ -1,22 +1,15 @@
 // The tests of the homes and of a given state, in a tree that 4 to 8 do not refuse.
 ghost use Rattle.std.specs.Prelude.{◌≡◌, true, ◌&&◌, ◌+◌, ◌<◌, ◌≤◌, leb, get_or};
 ghost use Rattle.model.specs.Scans.{all_below};
-ghost use Rattle.model.specs.Trees.{meets};
+ghost use Rattle.model.specs.Refusals.{tree_refusal};
+ghost use Rattle.model.specs.Trees.{tree_of, meets};
 ghost use Rattle.model.specs.States.{numbers_at};
-ghost use Rattle.refusals.specs.Arrays.{parents_in, Lower};
-ghost use Rattle.refusals.specs.OfRuns.Tables.{member_in, next_in, tail_and_next_in, peer_in, barred_in, domain_in, ticket_place_in, place_in, root_in, resting_row, HomesThere, used_in};
+ghost use Rattle.refusals.specs.OfRuns.Tables.{member_in, next_in, tail_and_next_in, peer_in, barred_in, domain_in, ticket_place_in, place_in, root_in, resting_row, RestMarks, HomesThere, used_in};
 ghost use Rattle.refusals.specs.Paths.Records.{own_record_in};
 
 use crate::of_runs::shapes::{CHECK, GRANT, IDLE, RAISE, WAIT, WATCH};
 use crate::of_runs::{marks, places, shapes};
 use model::{PlaceWords, State, TreeWords};
-
-// The tail of a domain, and the next of its record, given the domain of which it is a member.
-fn good_domain_words_at(owners: &[u8; 320], d: u8, tail: u16, owner: u8, next: u16) -> bool
-    ensures { result ≡ next_in owners.now d tail && next_in owners.now owner next }
-{
-    good_next_at(owners, d, tail) && good_next_at(owners, owner, next)
-}
 
 fn is_member_at(owners: &[u8; 320], d: u8, r: u16) -> bool
     ensures { result ≡ member_in owners.now d r }
@@ -31,92 +24,45 @@ fn good_next_at(owners: &[u8; 320], d: u8, next: u16) -> bool
     next == 0 || is_member_at(owners, d, next - 1)
 }
 
+// The tail of a domain, and the next of its record; the table names the domain whose member the record belongs to.
+fn good_domain_at(owners: &[u8; 320], words: &State, d: u8) -> bool
+    requires { d < 64 }
+    ensures { result ≡ tail_and_next_in owners.now d (get_or words.now.tails d 0) (get_or words.now.nexts (256 + d) 0) }
+{
+    let at = usize::from(d);
+    let record = 256 + at;
+    good_next_at(owners, d, words.tails[at])
+        && good_next_at(owners, owners[record], words.nexts[record])
+}
+
 // The tail of each domain of the tree, and the next of its record; the root has no record.
+#[tactic(auto, using(crate::proofs::Scanning::one_more, model::proofs::Tests::all_true))]
 pub(crate) fn good_domains(owners: &[u8; 320], domains: u32, words: &State) -> bool
     requires { domains ≤ 64 }
     ensures { result ≡ all_below domains (λ d. tail_and_next_in owners.now d (get_or words.now.tails d 0) (get_or words.now.nexts (256 + d) 0)) }
 {
     for d in 0..domains as u8 {
-        let at = usize::from(d);
-        let record = 256 + at;
-        if !good_domain_words_at(
-            owners,
-            d,
-            words.tails[at],
-            owners[record],
-            words.nexts[record],
-        ) {
+        if !good_domain_at(owners, words, d) {
             return false;
         }
     }
     true
 }
 
-// Whether going up from a domain reaches another.
-fn meets_at(tree: &TreeWords, from: u8, d: u8) -> bool
-    requires domains_bound { tree.now.domains ≤ 64 }
-    requires lower { Lower tree.now.domains tree.now.parents }
-    requires from_lt_domains { from < tree.now.domains }
-    ensures { result ≡ meets 6 (parents_in tree.now.domains tree.now.parents) from d }
-{
-    let mut c = from;
-    for _level in 0..6u32 {
-        if c == d {
-            return true;
-        }
-        if c == 0 {
-            return false;
-        }
-        c = tree.parents[usize::from(c)];
-    }
-    c == d
-}
-
 // The root in Check, or a ticket root in any place of a queue.
-fn is_barred_at(ticket_root: u32, row: u8, l: u8) -> bool
-    ensures { result ≡ barred_in ticket_root row l }
+#[tactic(auto, unfolding(model::specs::Trees::tree_of))]
+fn is_barred_at(tree: &TreeWords, row: u8, l: u8) -> bool
+    ensures { result ≡ barred_in (tree_of tree.now) row l }
 {
-    l == 0 && (row == CHECK || ticket_root != 0)
-}
-
-// Whether the status of a thread's record at the root is at most 65,535.
-fn is_status_low(tree: &TreeWords, statuses: &[u64; 320], i: u16, home: u8) -> bool
-    requires domains_bound { (tree.now.domains ≤ 64) × (i < 256) }
-    requires lower { Lower tree.now.domains tree.now.parents }
-    requires home_lt_domains { home < tree.now.domains }
-    ensures { result ≡ leb (get_or statuses.now (own_record_in (parents_in tree.now.domains tree.now.parents) i home 0) 0) 65535 }
-{
-    let r = crate::paths::record_at(&tree.parents, tree.domains, i, home, 0);
-    statuses[usize::from(r)] <= 65535
-}
-
-// Draw, Watch and Raise: only at a ticket root, with a watched status of at most 65,535.
-#[tactic(auto, unfolding(crate::specs::OfRuns::Tables::ticket_place_in))]
-fn good_ticket_place_at(
-    tree: &TreeWords,
-    statuses: &[u64; 320],
-    i: u16,
-    home: u8,
-    q: PlaceWords,
-) -> bool
-    requires domains_bound { (tree.now.domains ≤ 64) × (i < 256) }
-    requires lower { Lower tree.now.domains tree.now.parents }
-    requires home_lt_domains { home < tree.now.domains }
-    ensures { result ≡ ticket_place_in tree.now.ticket_root (parents_in tree.now.domains tree.now.parents) statuses.now i home q }
-{
-    tree.ticket_root != 0
-        && q.row <= RAISE
-        && q.word == 0
-        && q.domain == 0
-        && q.peer == 0
-        && (q.row != WATCH || is_status_low(tree, statuses, i, home))
+    l == 0 && (row == CHECK || tree.ticket_root != 0)
 }
 
 // No tail at a ticket root, no counters at a queue root.
-pub(crate) fn good_root_at(ticket_root: u32, words: &State) -> bool
-    ensures { result ≡ root_in ticket_root (get_or words.now.tails 0 0) words.now.ticket words.now.grant }
+#[tactic(auto, unfolding(model::specs::Trees::tree_of))]
+pub(crate) fn good_root_at(tree: &TreeWords, words: &State) -> bool
+    ensures { result ≡ root_in (tree_of tree.now) (get_or words.now.tails 0 0) words.now.ticket words.now.grant }
 {
-    if ticket_root == 0 {
+    if tree.ticket_root == 0 {
         return words.ticket == 0 && words.grant == 0;
     }
     words.tails[0] == 0
@@ -131,46 +77,88 @@ fn good_peer_at(owners: &[u8; 320], row: u8, l: u8, peer: u16) -> bool
     peer == 0
 }
 
-fn good_domain_at(tree: &TreeWords, owners: &[u8; 320], home: u8, q: PlaceWords) -> bool
-    requires domains_bound { tree.now.domains ≤ 64 }
-    requires lower { Lower tree.now.domains tree.now.parents }
-    requires home_lt_domains { home < tree.now.domains }
-    ensures { result ≡ domain_in tree.now.ticket_root (parents_in tree.now.domains tree.now.parents) owners.now home q.row q.domain q.peer }
-{
-    !is_barred_at(tree.ticket_root, q.row, q.domain)
-        && meets_at(tree, home, q.domain)
-        && good_peer_at(owners, q.row, q.domain, q.peer)
+// A thread of a tree that 4 to 9 and 16 do not refuse, as the tests of its place read it.
+#[derive(Clone, Copy)]
+struct Thread<'a> {
+    tree: &'a TreeWords,
+    number: u16,
+    home: u8,
+    ghost accepted: { (tree_refusal (tree_of tree.now)).number ≡ 0 },
+    ghost there: { number < tree.now.threads },
+    ghost home_there: { home < tree.now.domains },
 }
 
-#[tactic(auto, unfolding(crate::specs::OfRuns::Tables::place_in))]
-fn good_place_at(
-    tree: &TreeWords,
-    owners: &[u8; 320],
-    statuses: &[u64; 320],
-    i: u16,
-    home: u8,
-    q: PlaceWords,
-) -> bool
-    requires domains_bound { (tree.now.domains ≤ 64) × (i < 256) }
-    requires lower { Lower tree.now.domains tree.now.parents }
-    requires home_lt_domains { home < tree.now.domains }
-    ensures { result ≡ place_in tree.now.ticket_root (parents_in tree.now.domains tree.now.parents) owners.now statuses.now i home q }
-{
-    if GRANT < q.row {
-        return good_ticket_place_at(tree, statuses, i, home, q);
+impl Thread<'_> {
+    // Whether a domain is on the thread's path.
+    fn passes(&self, d: u8) -> bool
+        ensures { result ≡ meets 6 (tree_of self.now.tree.now) self.now.home d }
+    {
+        let tree = self.tree;
+        let mut c = self.home;
+        for _level in 0..6u32 {
+            if c == d {
+                return true;
+            }
+            if c == 0 {
+                return false;
+            }
+            c = tree.parents[usize::from(c)];
+        }
+        c == d
     }
-    if shapes::has_spare_word(q.row, q.word) {
-        return false;
+
+    // Whether the status of the thread's record at the root is at most 65,535.
+    fn is_status_low(&self, statuses: &[u64; 320]) -> bool
+        ensures { result ≡ leb (get_or statuses.now (own_record_in (tree_of self.now.tree.now) self.now.number self.now.home 0) 0) 65535 }
+    {
+        let tree = self.tree;
+        let r = crate::paths::record_at(&tree.parents, tree.domains, self.number, self.home, 0);
+        statuses[usize::from(r)] <= 65535
     }
-    if shapes::has_domain(q.row) {
-        return good_domain_at(tree, owners, home, q);
+
+    // Draw, Watch and Raise: only at a ticket root, with a watched status of at most 65,535.
+    #[tactic(auto, unfolding(crate::specs::OfRuns::Tables::ticket_place_in, model::specs::Trees::tree_of))]
+    fn has_good_ticket_place(&self, statuses: &[u64; 320], q: PlaceWords) -> bool
+        ensures { result ≡ ticket_place_in (tree_of self.now.tree.now) statuses.now self.now.number self.now.home q }
+    {
+        self.tree.ticket_root != 0
+            && q.row <= RAISE
+            && q.word == 0
+            && q.domain == 0
+            && q.peer == 0
+            && (q.row != WATCH || self.is_status_low(statuses))
     }
-    q.domain == 0 && q.peer == 0
+
+    // A domain on the path where the row may be, and a record that fits the row.
+    fn has_good_domain(&self, owners: &[u8; 320], q: PlaceWords) -> bool
+        ensures { result ≡ domain_in (tree_of self.now.tree.now) owners.now self.now.home q.row q.domain q.peer }
+    {
+        !is_barred_at(self.tree, q.row, q.domain)
+            && self.passes(q.domain)
+            && good_peer_at(owners, q.row, q.domain, q.peer)
+    }
+
+    #[tactic(auto, unfolding(crate::specs::OfRuns::Tables::place_in))]
+    fn has_good_place(&self, owners: &[u8; 320], statuses: &[u64; 320], q: PlaceWords) -> bool
+        ensures { result ≡ place_in (tree_of self.now.tree.now) owners.now statuses.now self.now.number self.now.home q }
+    {
+        if GRANT < q.row {
+            return self.has_good_ticket_place(statuses, q);
+        }
+        if shapes::has_spare_word(q.row, q.word) {
+            return false;
+        }
+        if shapes::has_domain(q.row) {
+            return self.has_good_domain(owners, q);
+        }
+        q.domain == 0 && q.peer == 0
+    }
 }
 
 // The row of the threads that rest.
+#[tactic(auto, unfolding(model::specs::Trees::tree_of))]
 pub(crate) fn resting_row_of(tree: &TreeWords) -> u8
-    ensures { result ≡ resting_row tree.now.ticket_root tree.now.domains }
+    ensures { result ≡ resting_row (tree_of tree.now) }
 {
     if tree.ticket_root != 0 && tree.domains == 1 {
         return IDLE;
@@ -186,11 +174,11 @@ fn good_thread_at(
     words: &State,
     i: u16,
 ) -> bool
-    requires count_bound { (tree.now.domains ≤ 64) × (i < 256) }
-    requires lower { Lower tree.now.domains tree.now.parents }
-    requires i_bound { get_or owners.now i 0 < tree.now.domains }
-    requires q_value { get_or marks.now i 0 ≡ 0 → place_in tree.now.ticket_root (parents_in tree.now.domains tree.now.parents) owners.now words.now.statuses i (get_or owners.now i 0) (numbers_at words.now.places i) ≡ true }
-    ensures { result ≡ used_in tree.now.ticket_root (parents_in tree.now.domains tree.now.parents) owners.now words.now.statuses i (numbers_at words.now.places i) (get_or words.now.nexts i 0) }
+    requires accepted { (tree_refusal (tree_of tree.now)).number ≡ 0 }
+    requires thread_there { i < tree.now.threads }
+    requires homes_there { HomesThere tree.now owners.now }
+    requires marks_there { RestMarks tree.now.threads (resting_row (tree_of tree.now)) owners.now words.now.places marks.now }
+    ensures { result ≡ used_in (tree_of tree.now) owners.now words.now.statuses i (numbers_at words.now.places i) (get_or words.now.nexts i 0) }
 {
     let at = usize::from(i);
     let home = owners[at];
@@ -200,21 +188,24 @@ fn good_thread_at(
     if marks[at] == 0 {
         return true;
     }
+    let thread = Thread {
+        tree,
+        number: i,
+        home,
+    };
     let q = places::place_at(&words.places, at);
-    good_place_at(tree, owners, &words.statuses, i, home, q)
+    thread.has_good_place(owners, &words.statuses, q)
 }
 
 // The words of each thread.
+#[tactic(auto, using(crate::proofs::Scanning::one_more, model::proofs::Tests::all_true))]
 pub(crate) fn good_threads(tree: &TreeWords, owners: &[u8; 320], words: &State) -> bool
-    requires count_bound { (tree.now.domains ≤ 64) × (tree.now.threads ≤ 256) }
-    requires lower { Lower tree.now.domains tree.now.parents }
-    requires homes_there { HomesThere tree.now.ticket_root tree.now.domains tree.now.threads owners.now }
-    ensures { let t = parents_in tree.now.domains tree.now.parents in
-        result ≡ all_below tree.now.threads (λ i. used_in tree.now.ticket_root t owners.now words.now.statuses i (numbers_at words.now.places i) (get_or words.now.nexts i 0)) }
+    requires accepted { (tree_refusal (tree_of tree.now)).number ≡ 0 }
+    requires homes_there { HomesThere tree.now owners.now }
+    ensures { result ≡ all_below tree.now.threads (λ i. used_in (tree_of tree.now) owners.now words.now.statuses i (numbers_at words.now.places i) (get_or words.now.nexts i 0)) }
 {
-    let mut marks = [0u8; 256];
-    let row = resting_row_of(tree);
-    marks::mark_threads(&mut marks, owners, tree.threads, row, &words.places);
+    let resting = resting_row_of(tree);
+    let marks = marks::mark_threads(owners, tree.threads, resting, &words.places);
     for i in 0..tree.threads as u16 {
         if !good_thread_at(tree, owners, &marks, words, i) {
             return false;

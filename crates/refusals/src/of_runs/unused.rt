@@ -4,8 +4,9 @@ ghost use Rattle.refusals.specs.OfRuns.Tables.{zeros_between, places_clear, reco
 
 use model::{PlaceArrays, State, TreeWords};
 
-// Kept: three functions for 8-bit, 16-bit and 64-bit numbers. One generic function needs a trait with three impls, which is longer.
 // Whether all these numbers are 0.
+// Kept: three functions, for 8-bit, 16-bit and 64-bit numbers: one generic function needs a trait with three impls, which is longer.
+#[tactic(auto, using(crate::proofs::of_runs::Folds::zeros_folded))]
 fn are_zero_bytes(values: &[u8], from: usize, to: usize) -> bool
     requires { (from ≤ to) × (to ≤ length values.now) }
     ensures { result ≡ zeros_between from to values.now }
@@ -13,6 +14,7 @@ fn are_zero_bytes(values: &[u8], from: usize, to: usize) -> bool
     values[from..to].iter().fold(0, |all, x| all | *x) == 0
 }
 
+#[tactic(auto, using(crate::proofs::of_runs::Folds::zeros_folded))]
 pub(crate) fn are_zero_halves(values: &[u16], from: usize, to: usize) -> bool
     requires { (from ≤ to) × (to ≤ length values.now) }
     ensures { result ≡ zeros_between from to values.now }
@@ -20,6 +22,7 @@ pub(crate) fn are_zero_halves(values: &[u16], from: usize, to: usize) -> bool
     values[from..to].iter().fold(0, |all, x| all | *x) == 0
 }
 
+#[tactic(auto, using(crate::proofs::of_runs::Folds::zeros_folded))]
 pub(crate) fn are_zero_words(values: &[u64], from: usize, to: usize) -> bool
     requires { (from ≤ to) × (to ≤ length values.now) }
     ensures { result ≡ zeros_between from to values.now }

@@ -1,5 +1,7 @@
 -- `refusals::of_runs::is_well_formed` meets its contract: the root, the unused slots, the domains and the threads are the parts of the state.
 use borrow.Author.Rules.{rules}
+use Rattle.model.specs.Trees.{tree_of}
+use Rattle.model.proofs.Trees.Accepted.{accepted}
 use Rattle.refusals.proofs.of_runs.Passing.{shape_of, homes_there, parts_are}
 use Rattle.refusals.proofs.of_runs.is_well_formed.Goals as goal
 
@@ -13,12 +15,12 @@ pub good_domains-requires : goal.good_domains-requires
 good_domains-requires c = (shape_of c.args.tree.now c.requires).few_domains
 
 pub good_threads-requires : goal.good_threads-requires
-good_threads-requires c =
-    let k = shape_of c.args.tree.now c.requires in
-    record { count_bound = (k.few_domains, k.few_threads); lower = k.low; homes_there = homes_there c.args.tree.now c.requires _ c.owners_of-owners.ensures }
+good_threads-requires c = record { accepted = c.requires; homes_there = homes_there c.args.tree.now c.requires _ c.owners_of-owners.ensures }
 
 pub returns-then-good_domains : goal.returns-then-good_domains
-returns-then-good_domains c = rw (parts_are c.args.tree.now c.requires _ c.owners_of-owners.ensures c.args.words.now) (search rules)
+unfolding tree_of
+returns-then-good_domains c = rw (parts_are (tree_of c.args.tree.now) (accepted _ c.requires) _ c.owners_of-owners.ensures c.args.words.now) (search rules)
 
 pub returns-else-good_domains : goal.returns-else-good_domains
-returns-else-good_domains c = rw (parts_are c.args.tree.now c.requires _ c.owners_of-owners.ensures c.args.words.now) (search rules)
+unfolding tree_of
+returns-else-good_domains c = rw (parts_are (tree_of c.args.tree.now) (accepted _ c.requires) _ c.owners_of-owners.ensures c.args.words.now) (search rules)

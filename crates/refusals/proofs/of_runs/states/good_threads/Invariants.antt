@@ -4,11 +4,11 @@ use mathlib.Core.Bool.{true}
 use Prim.Native.Nat.{ℕ, ◌<◌}
 use lib.ListN.{get_or}
 use Rattle.model.specs.States.{numbers_at}
-use Rattle.refusals.specs.Arrays.{parents_in}
+use Rattle.model.specs.Trees.{tree_of}
 use Rattle.refusals.specs.OfRuns.Tables.{used_in}
 use Rattle.refusals.proofs.of_runs.states.good_threads.Given as goal
 
 abbrev pub invariant-loop-i : goal.invariant-loop-i
 invariant-loop-i l =
     (j : ℕ) → j < l.i →
-    used_in l.tree.ticket_root (parents_in l.tree.domains l.tree.parents) l.owners l.words.statuses j (numbers_at l.words.places j) (get_or l.words.nexts j 0) ≡ true
+    used_in (tree_of l.tree) l.owners l.words.statuses j (numbers_at l.words.places j) (get_or l.words.nexts j 0) ≡ true
