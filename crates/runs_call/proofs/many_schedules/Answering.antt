@@ -14,8 +14,8 @@ use Rattle.schedules.specs.Refusals.{many_refusal}
 use Rattle.schedules.proofs.Refusing.{tree_refused, total_refused, room_refused, accepts}
 
 module _ (t : Tree) (ns : List ℕ) (n room : ℕ) where
-  pub tree_answered : (q : Refusal) → q ≡ tree_refusal t → (q.number ≡ 0 → ⊥) → q ≡ many_refusal t ns n room
-  tree_answered q e h = e ∙ sym (tree_refused t ns n room (λ z. h (ap (λ v. v.number) e ∙ z)))
+  pub tree_answered : (q : Refusal) → q ≡ tree_refusal t → ((tree_refusal t).number ≡ 0 → ⊥) → q ≡ many_refusal t ns n room
+  tree_answered q e h = e ∙ sym (tree_refused t ns n room h)
 
   module _ (z : (tree_refusal t).number ≡ 0) where
     pub total_answered : false ≡ eqb (total ns) n → refusal 22 0 ≡ many_refusal t ns n room

@@ -85,6 +85,7 @@ module _ (w : TreeWords) (ns es b : List ℕ) where
     call_refuses = rw (sym e, ne_eqb (number_of x.reason) 0 (reason_numbered x.reason))
 
     pub rows_kept : b ≡ rows_answer w ns es b
+    unfolding many_answer many_refusal
     rows_kept = sym (rows_refused w ns es b (error_numbered x e))
 
   module _ (z : accepted ≡ many_refusal (tree_of w) ns (length es) (length b)) where

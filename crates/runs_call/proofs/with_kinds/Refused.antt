@@ -15,9 +15,8 @@ use Rattle.kinds.proofs.Refusing.{run_decides, early_decides, rows_pass, counter
 
 module _ (t : Tree) (s : LockState) (is : List ℕ) (room n : ℕ) where
   -- if a test before 28 refuses, its result is the answer
-  pub run_answered : (q : Refusal) → q ≡ first_refusal (run_tests_before_19 t s is room) → (q.number ≡ 0 → ⊥) → q ≡ kinds_refusal t s is room n
-  run_answered q e h =
-      let n' : (first_refusal (run_tests_before_19 t s is room)).number ≡ 0 → ⊥ = λ z. h (ap (λ v. v.number) e ∙ z) in
+  pub run_answered : (q : Refusal) → q ≡ first_refusal (run_tests_before_19 t s is room) → ((first_refusal (run_tests_before_19 t s is room)).number ≡ 0 → ⊥) → q ≡ kinds_refusal t s is room n
+  run_answered q e n' =
       let d = run_decides t s is room n n' in
       e ∙ sym (early_decides t s is room n (λ z. n' (sym (ap (λ q. q.number) d) ∙ z)) ∙ d)
 

@@ -13,8 +13,8 @@ use Rattle.waits.proofs.Refusing.{run_early, early, run_decides, rows_refuse, ro
 use Rattle.waits.proofs.RefusingOn.{waits_refused, number_refuses, numbers_pass, on_early_decides, on_counters_decide}
 
 module _ (t : Tree) (s : LockState) (is : List ℕ) (room n : ℕ) where
-  pub run_answered : (q : Refusal) → q ≡ run_early t s is room n → (q.number ≡ 0 → ⊥) → q ≡ early t s is room n
-  run_answered q e h = e ∙ sym (run_decides t s is room n (λ z. h (ap (λ v. v.number) e ∙ z)))
+  pub run_answered : (q : Refusal) → q ≡ run_early t s is room n → ((run_early t s is room n).number ≡ 0 → ⊥) → q ≡ early t s is room n
+  run_answered q e h = e ∙ sym (run_decides t s is room n h)
 
   module _ (passes : (run_early t s is room n).number ≡ 0) where
     pub room_answered : n / 5 ≤ t.threads → refusal 18 0 ≡ early t s is room n
@@ -26,10 +26,8 @@ module _ (t : Tree) (s : LockState) (is : List ℕ) (room n : ℕ) where
 -- then 27: what the numbers refuse, and what is left if they refuse nothing
 module _ (t : Tree) (s : LockState) (is : List ℕ) (room n : ℕ) (us : List ℕ) where
   -- if a test before 27 refuses, its result is the answer
-  pub waits_answered : (q : Refusal) → q ≡ early t s is room n → (q.number ≡ 0 → ⊥) → q ≡ waits_on_refusal t s is room n us
-  waits_answered q e h =
-      let m : (early t s is room n).number ≡ 0 → ⊥ = λ z. h (ap (λ v. v.number) e ∙ z) in
-      e ∙ sym (waits_refused t s is room n us m ∙ early_decides t s is room n m)
+  pub waits_answered : (q : Refusal) → q ≡ early t s is room n → ((early t s is room n).number ≡ 0 → ⊥) → q ≡ waits_on_refusal t s is room n us
+  waits_answered q e m = e ∙ sym (waits_refused t s is room n us m ∙ early_decides t s is room n m)
 
   module _ (passes : (early t s is room n).number ≡ 0) where
     pub number_answered : (k : ℕ) → Lowest 256 (bad_under_way t us) k → k < 256 → refusal 27 k ≡ waits_on_refusal t s is room n us

@@ -27,7 +27,7 @@ counts_of-requires c = let a = c.args in
     kinds_few _ _ a.schedule.now a.trace.now (as_run _ _ _ a.trace.now a.rows.now (ok_numbered c.in_ok-refusal_of.ensures)) _ c.run_lent.ensures.kinds_after
 
 pub returns-clause-counts : goal.returns-clause-counts
-returns-clause-counts c = counts_run _ _ _ _ _ c.run_lent.ensures.kinds_after c.counts_of.ensures
+returns-clause-counts c = counts_run c.args.tree.now c.args.state.now c.args.schedule.now _ _ c.run_lent.ensures.kinds_after c.counts_of.ensures
 
 pub returns-clause-state_after : goal.returns-clause-state_after
 returns-clause-state_after c = let a = c.args in passed_state _ _ _ a.trace.now a.rows.now (ok_numbered c.in_ok-refusal_of.ensures) _ c.run_lent.ensures.words_after c.run_lent.ensures.counters_after
