@@ -64,7 +64,7 @@ pub fn check_steps(
     if r.number != 0 {
         return StepsReply {
             number: r.number,
-            place: casts::number_index(r.place),
+            place: r.place as usize,
             checked: 0,
             state,
         };

@@ -63,7 +63,7 @@ fn stretch_of<'s, 'c>(
     if r.number != 0 {
         return Found {
             number: 19,
-            steps: casts::number_index(r.place),
+            steps: r.place as usize,
         };
     }
     if known < threads.len() {

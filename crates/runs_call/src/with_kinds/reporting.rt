@@ -152,7 +152,7 @@ pub(crate) fn run_reported(
     );
     spread(&tree.homes, schedule, rows);
     let counts = run::counts_of(&kinds);
-    let written = casts::index_number(schedule.len());
+    let written = schedule.len() as u32;
     Reported {
         number: 0,
         place: 0,

@@ -23,11 +23,11 @@ pub counts_of-counts-requires-2 : goal.counts_of-counts-requires-2
 counts_of-counts-requires-2 c = let a = c.args in
     kinds_few _ _ a.schedule.now a.trace.now _ (as_run _ _ _ a.trace.now a.rows.now _ c.refusal_of-r.ensures c.if-r-ne0.false) c.if-r-ne0.false _ c.run_lent.ensures.kinds_after
 
-pub index_number-written-requires : goal.index_number-written-requires
-index_number-written-requires c = let a = c.args in
+pub overflow_cast-written : goal.overflow_cast-written
+overflow_cast-written c = let a = c.args in
     omega (arith, short _ _ a.schedule.now a.trace.now a.rows.now _ c.refusal_of-r.ensures c.if-r-ne0.false)
 
 pub returns : goal.returns
 returns c = let refusal_is = c.refusal_of-r.ensures in
     let a = c.args in
-    let answer = reported_answered _ _ a.schedule.now a.trace.now a.rows.now _ refusal_is c.if-r-ne0.false _ _ _ _ _ _ c.run_lent.ensures.after_after c.run_lent.ensures.trace_after c.run_lent.ensures.kinds_after c.counts_of-counts-2.ensures c.run_lent.ensures.longest_after c.index_number-written.ensures in record { result_value = ap reported_beside answer.0; after_after = ap (λ r. r.state) answer.0; trace_after = answer.1; rows_after = rows_reported _ _ a.schedule.now a.trace.now a.rows.now _ refusal_is c.if-r-ne0.false c.requires _ _ c.run_lent.ensures.codes_after c.spread.ensures }
+    let answer = reported_answered _ _ a.schedule.now a.trace.now a.rows.now _ refusal_is c.if-r-ne0.false _ _ _ _ _ _ c.run_lent.ensures.after_after c.run_lent.ensures.trace_after c.run_lent.ensures.kinds_after c.counts_of-counts-2.ensures c.run_lent.ensures.longest_after refl in record { result_value = ap reported_beside answer.0; after_after = ap (λ r. r.state) answer.0; trace_after = answer.1; rows_after = rows_reported _ _ a.schedule.now a.trace.now a.rows.now _ refusal_is c.if-r-ne0.false c.requires _ _ c.run_lent.ensures.codes_after c.spread.ensures }
