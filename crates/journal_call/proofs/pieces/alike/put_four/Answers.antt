@@ -1,18 +1,18 @@
--- `journal_call::pieces::alike::put_four` meets its contract: what is copied over a part is stored there in order.
-use mathlib.Core.Path.{◌≡◌, sym, ap, ◌∙◌}
-use mathlib.Core.List.{List, ◌++◌, append_assoc}
-use Prim.Native.Nat.{ℕ, ◌+◌, ◌-◌, ◌≤◌}
+-- `journal_call::pieces::alike::put_four` meets its contract: four stores in order.
+use mathlib.Core.Path.{◌≡◌}
+use mathlib.Core.List.{List, [], ◌∷◌}
+use Prim.Native.Nat.{ℕ, suc, ◌+◌}
 use native.Mathlib.Omega.{arith}
-use lib.ListN.{length, take, drop}
-use lib.Seq.{sets, sets-eq, drop-drop}
-use borrow.Rule.Slice.PartMut.{put_mid}
+use lib.ListN.{set}
+use lib.Seq.{sets}
 use Rattle.journal_call.proofs.pieces.alike.put_four.Goals as goal
 
-put_stored : {X : Type 0} (a k : ℕ) (xs ys : List X) → k ≡ length ys → a + k ≤ length xs → put_mid a k xs ys ≡ sets xs a ys
-put_stored a k xs ys e h =
-    sym (append_assoc (take a xs) ys (drop k (drop a xs))) ∙ ap (λ r. take a xs ++ ys ++ r) (drop-drop k a xs ∙ ap (λ n. drop (a + n) xs) e)
-    ∙ sym (sets-eq ys xs a (omega arith))
+stored : {X : Type 0} (xs : List X) (n : ℕ) (a b c d : X) → set (set (set (set xs n a) (n + 1) b) (n + 2) c) (n + 3) d ≡ sets xs n (a ∷ b ∷ c ∷ d ∷ [])
+stored xs n a b c d =
+    let second : n + 1 ≡ suc n = omega arith in
+    let third : n + 2 ≡ suc (suc n) = omega arith in
+    let fourth : n + 3 ≡ suc (suc (suc n)) = omega arith in
+    rw (second, third, fourth)
 
 pub returns : goal.returns
-returns g c = let same = c.copy_from_slice.ensures.after in
-    put_stored c.args.from (c.args.from + 4 - c.args.from) c.args.elements.now c.copy_from_slice.new.self (omega (arith, ap length same, c.told-four)) (omega (arith, c.requires)) ∙ ap (sets c.args.elements.now c.args.from) same
+returns g c = stored c.args.elements.now c.args.from c.args.a c.args.b c.args.c c.args.d
