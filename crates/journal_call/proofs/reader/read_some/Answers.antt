@@ -10,12 +10,6 @@ loop-count-init c = nothing _ _ _ _ _ _ _ (omega (arith, c.requires)) (omega (ar
 pub returns-then-known-from : goal.returns-then-known-from
 returns-then-known-from c = rw c.stopped.ensures (record { read_on = c.loop-count.invariant; stopped_before = unknown _ _ _ _ _ _ _ _ _ (sym c.read_entry.ensures ∙ c.in-Named.is) (omega (arith, c.if-known-from.true, c.from.ensures)) })
 
-pub bounds-threads-count : goal.bounds-threads-count
-bounds-threads-count c = omega (arith, threads_long _ _ _ _ _ _ _ _ _ _ _ _ c.loop-count.invariant, c.requires)
-
-pub bounds-kinds-count : goal.bounds-kinds-count
-bounds-kinds-count c = omega (arith, kinds_long _ _ _ _ _ _ _ _ _ _ _ _ c.loop-count.invariant, c.requires)
-
 pub loop-count-preserved : goal.loop-count-preserved
 loop-count-preserved c = let long_threads = threads_long _ _ _ _ _ _ _ _ _ _ _ _ c.loop-count.invariant in
     let long_kinds = kinds_long _ _ _ _ _ _ _ _ _ _ _ _ c.loop-count.invariant in
