@@ -2,7 +2,6 @@
 use native.Mathlib.Omega.{arith}
 use Rattle.journal_call.proofs.reader.Stretching.{nothing}
 use Rattle.journal_call.proofs.pieces.Fours.{four_read, four_others}
-use borrow.Author.Rules.{rules}
 use Rattle.journal_call.proofs.pieces.alike.read_others.Goals as goal
 
 pub returns-then-all_known : goal.returns-then-all_known
