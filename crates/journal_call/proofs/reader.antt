@@ -1,3 +1,2 @@
 -- What several proofs use.
-pub mod Products
 pub mod Stretching

@@ -1,5 +1,4 @@
 -- The proofs that belong to no function.
-pub mod Comparing
 pub mod Stretching
 pub mod Piecing
 pub mod Wholes

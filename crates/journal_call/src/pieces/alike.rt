@@ -1,5 +1,5 @@
 // Four entries at a time, if four in a row have the same bit map: one thread alone, a thread that waits, threads that wait in turn. Their sizes are then known in advance, so that reading one does not depend on the one before.
-ghost use Rattle.std.specs.Prelude.{◌≡◌, true, ◌+◌, ◌*◌, ◌≤◌, ◌<◌, length};
+ghost use Rattle.std.specs.Prelude.{◌≡◌, true, [], ◌∷◌, ◌+◌, ◌*◌, ◌≤◌, ◌<◌, length};
 ghost use Rattle.std.proofs.lemmas.List.Edits.{sets};
 ghost use Rattle.journal_call.specs.Reader.Stretches.{ReadOn};
 ghost use Rattle.journal_call.specs.Pieces.Pieces.{AllAre, AllBelow, Fits, KindsGiven};
@@ -13,17 +13,21 @@ fn all_are(bits: u8, four: [u8; 4]) -> bool
     u32::from_le_bytes(four) == u32::from_le_bytes([bits; 4])
 }
 
-fn all_known(known: u32, threads: &[u16; 4]) -> bool
-    ensures { result ≡ true → AllBelow known threads.now }
+fn all_known(known: u32, threads: [u16; 4]) -> bool
+    ensures { result ≡ true → AllBelow known threads }
 {
     threads.iter().all(|thread| u32::from(*thread) < known)
 }
 
-fn put_four<T: Copy>(elements: &mut [T], from: usize, four: &[T; 4])
+// Kept: four stores, since `copy_from_slice` of four values goes through the stack and tests for an overlap.
+fn put_four<T: Copy>(elements: &mut [T], from: usize, a: T, b: T, c: T, d: T)
     requires { from + 4 ≤ length elements.old }
-    ensures { elements.new ≡ sets elements.old from four.now }
+    ensures { elements.new ≡ sets elements.old from (a ∷ b ∷ c ∷ d ∷ []) }
 {
-    elements[from..from + 4].copy_from_slice(four);
+    elements[from] = a;
+    elements[from + 1] = b;
+    elements[from + 2] = c;
+    elements[from + 3] = d;
 }
 
 // Four entries of the thread before that name a kind, or four of it that do not.
@@ -53,8 +57,8 @@ fn read_same(
         let b = journal[position + 3];
         let c = journal[position + 5];
         let d = journal[position + 7];
-        put_four(threads, count, &[before; 4]);
-        put_four(kinds, count, &[a, b, c, d]);
+        put_four(threads, count, before, before, before, before);
+        put_four(kinds, count, a, b, c, d);
         return stopped(count + 4, position + 8, before, None);
     }
     if all_are(
@@ -66,8 +70,8 @@ fn read_same(
             journal[position + 3],
         ],
     ) {
-        put_four(threads, count, &[before; 4]);
-        put_four(kinds, count, &[0; 4]);
+        put_four(threads, count, before, before, before, before);
+        put_four(kinds, count, 0, 0, 0, 0);
         return stopped(count + 4, position + 4, before, None);
     }
     stopped(count, position, before, None)
@@ -99,10 +103,9 @@ fn read_others(
         let b = two_bytes(journal[position + 4], journal[position + 5]);
         let c = two_bytes(journal[position + 7], journal[position + 8]);
         let d = two_bytes(journal[position + 10], journal[position + 11]);
-        let four = [a, b, c, d];
-        if all_known(known, &four) {
-            put_four(threads, count, &four);
-            put_four(kinds, count, &[0; 4]);
+        if all_known(known, [a, b, c, d]) {
+            put_four(threads, count, a, b, c, d);
+            put_four(kinds, count, 0, 0, 0, 0);
             return stopped(count + 4, position + 12, d, None);
         }
     }

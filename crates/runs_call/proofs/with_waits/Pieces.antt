@@ -5,7 +5,7 @@ use mathlib.Core.List.{List, [], ◌∷◌, ◌++◌, append_assoc, append-nil}
 use Prim.Native.Nat.{ℕ, zero, suc, ◌+◌, ◌-◌, ◌≤◌, ◌<◌}
 use native.Mathlib.Omega.{arith}
 use lib.ListN.{get_or, length, take, drop, replicate, drop_of_length-le, length-drop, length-append, length-replicate, take-append-drop}
-use lib.Seq.{length-take-le, take-take, take_all, drop-cons, take-append_seam, drop-append_seam, drop-drop, sets, length-sets}
+use lib.Seq.{length-take-le, take-take, take_all, drop-cons, take-append_seam, drop-append_seam, drop-drop, sets}
 use Rattle.model.specs.declared.TreeWords.{TreeWords}
 use Rattle.model.specs.declared.State.{State}
 use Rattle.model.specs.declared.Counters.{Counters}
@@ -99,9 +99,6 @@ unfolding steps
 steps_split t is s k h =
     sym (ap (λ (r : List ℕ). steps t r s) (take-append-drop k is)) ∙ steps_join t (take k is) (drop k is) s
     ∙ ap (λ (r : List ℕ). steps t (take k is) s ++ steps t r (state_after s (steps t (take k is) s))) (drop-cons is k 0 h)
-
-pub sets_long : (l l' xs : List ℕ) → l' ≡ sets l 0 xs → length l' ≡ length l
-sets_long l l' xs e = ap length e ∙ length-sets l 0 xs
 
 pub threads_few : (w : TreeWords) → (tree_refusal (tree_of w)).number ≡ 0 → (tree_of w).threads ≤ 256
 threads_few w z = (accepted (tree_of w) z).few_threads

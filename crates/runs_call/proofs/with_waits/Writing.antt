@@ -77,9 +77,6 @@ module _ (threads : ℕ) (A W L b l : List ℕ) (k at a w m : ℕ) (S : Written 
         attempts_small = omega (arith, S.attempts_small);
       }
 
-  pub written_long : (l' xs : List ℕ) → l' ≡ sets l at xs → length l' ≡ length b
-  written_long l' xs e = ap length e ∙ length-sets l at xs ∙ long
-
   pub written_ends : threads ≤ k → (l' : List ℕ) → l' ≡ sets l at (row_with a w m) → l' ≡ sets b 0 (rows_by threads A W L)
   unfolding rows_by
   written_ends h l' e =
@@ -103,9 +100,6 @@ unfolding numbers_by
 numbered_start threads n M b = record { within = omega arith; stored = refl }
 
 module _ (threads n : ℕ) (M b l : List ℕ) (k : ℕ) (S : Numbered threads n M b l k) where
-  pub numbered_long : length l ≡ length b
-  numbered_long = ap length S.stored ∙ length-sets b 0 (numbers_by k n M)
-
   pub numbered_turn : k < threads → (v : ℕ) → v ≡ number_of n (get_or M k 0) → Numbered threads n M b (set l k v) (k + 1)
   unfolding numbers_by
   numbered_turn h v e =

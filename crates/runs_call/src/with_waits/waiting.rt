@@ -104,8 +104,8 @@ impl Tally {
         ensures longest { result.longest ≡ replicate 256 0 }
     {
         let mut marks = [0u64; 256];
-        for k in 0..256usize {
-            marks[k] = mark_of(under_way[k]);
+        for (k, number) in under_way.iter().enumerate() {
+            marks[k] = mark_of(*number);
         }
         Tally {
             marks,
@@ -202,13 +202,12 @@ fn add_kinds(kinds: &mut [u32; 6], more: &[u32; 6])
     requires { (counts_by kinds.old).steps + (counts_by more.now).steps ≤ 65536 }
     ensures { kinds.new ≡ kinds_added kinds.old more.now }
 {
-    let a = kinds[0] + more[0];
-    let b = kinds[1] + more[1];
-    let c = kinds[2] + more[2];
-    let d = kinds[3] + more[3];
-    let e = kinds[4] + more[4];
-    let f = kinds[5] + more[5];
-    *kinds = [a, b, c, d, e, f];
+    let before = *kinds;
+    *kinds = std::array::from_fn(
+        |k|
+            requires { (k < 6) × (get_or before k 0 + get_or more.now k 0 ≤ 65536) }
+        { before[k] + more[k] },
+    );
 }
 
 // Where a piece ends: at most 1,024 entries on.

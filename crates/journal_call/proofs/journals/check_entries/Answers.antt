@@ -1,5 +1,4 @@
 -- `journal_call::journals::check_entries` meets its contract: going through the journal from a fresh lock gives the answer.
-use mathlib.Core.Path.{◌∙◌}
 use Rattle.journal_call.proofs.Journaling.{start}
 use Rattle.journal_call.proofs.journals.check_entries.Goals as goal
 

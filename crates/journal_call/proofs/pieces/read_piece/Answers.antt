@@ -45,11 +45,11 @@ loop-count-smaller c = let full = c.read_next-some.ensures.stopped_before.full (
 
 pub loop-count-preserved : goal.loop-count-preserved
 loop-count-preserved c = (
-      omega arith,
-      omega arith,
-      more _ _ _ _ _ _ _ _ _ _ _ _ c.loop-count.invariant.2 _ _ _ _ _
-          (again _ _ _ _ _ _ _ _ _ _ _ _ c.read_alike-alike.ensures c.if-count-alike.false _ _ _ _ _ c.read_next-some.ensures.read_on),
-    )
+  omega arith,
+  omega arith,
+  more _ _ _ _ _ _ _ _ _ _ _ _ c.loop-count.invariant.2 _ _ _ _ _
+      (again _ _ _ _ _ _ _ _ _ _ _ _ c.read_alike-alike.ensures c.if-count-alike.false _ _ _ _ _ c.read_next-some.ensures.read_on),
+)
 
 pub returns : goal.returns
 returns c = let inv = c.loop-count.invariant.2 in

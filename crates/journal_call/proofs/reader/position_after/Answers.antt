@@ -6,9 +6,6 @@ use Rattle.journal_call.specs.Reader.Stretches.{position_after}
 use Rattle.journal_call.proofs.reader.Stretching.{position_next, position_stopped, position_none}
 use Rattle.journal_call.proofs.reader.position_after.Goals as goal
 
-pub loop-passed-init : goal.loop-passed-init
-loop-passed-init c = ap (λ n. position_after n c.args.journal.now c.args.position c.args.before) (omega arith)
-
 pub loop-passed-preserved : goal.loop-passed-preserved
 loop-passed-preserved c = let bs = c.args.journal.now in
     let left : c.args.count - c.loop-passed._passed ≡ suc (c.args.count - (c.loop-passed._passed + 1)) = omega arith in

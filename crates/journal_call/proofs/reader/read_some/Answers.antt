@@ -10,17 +10,11 @@ loop-count-init c = nothing _ _ _ _ _ _ _ (omega (arith, c.requires)) (omega (ar
 pub returns-then-known-from : goal.returns-then-known-from
 returns-then-known-from c = rw c.stopped.ensures (record { read_on = c.loop-count.invariant; stopped_before = unknown _ _ _ _ _ _ _ _ _ (sym c.read_entry.ensures ∙ c.in-Named.is) (omega (arith, c.if-known-from.true, c.from.ensures)) })
 
-pub bounds-threads-count : goal.bounds-threads-count
-bounds-threads-count c = omega (arith, threads_long _ _ _ _ _ _ _ _ _ _ _ _ c.loop-count.invariant, c.requires)
-
-pub bounds-kinds-count : goal.bounds-kinds-count
-bounds-kinds-count c = omega (arith, kinds_long _ _ _ _ _ _ _ _ _ _ _ _ c.loop-count.invariant, c.requires)
-
 pub loop-count-preserved : goal.loop-count-preserved
 loop-count-preserved c = let long_threads = threads_long _ _ _ _ _ _ _ _ _ _ _ _ c.loop-count.invariant in
     let long_kinds = kinds_long _ _ _ _ _ _ _ _ _ _ _ _ c.loop-count.invariant in
-      more _ _ _ _ _ _ _ _ _ _ _ _ c.loop-count.invariant _ _ _ _ _
-          (one _ _ _ _ _ _ _ _ _ _ (omega (arith, long_threads, c.requires)) (omega (arith, long_kinds, c.requires)) (sym c.read_entry.ensures ∙ c.in-Named.is) (omega (arith, c.if-known-from.false, c.from.ensures)))
+    more _ _ _ _ _ _ _ _ _ _ _ _ c.loop-count.invariant _ _ _ _ _
+    (one _ _ _ _ _ _ _ _ _ _ (omega (arith, long_threads, c.requires)) (omega (arith, long_kinds, c.requires)) (sym c.read_entry.ensures ∙ c.in-Named.is) (omega (arith, c.if-known-from.false, c.from.ensures)))
 
 pub returns-in-Broken : goal.returns-in-Broken
 returns-in-Broken c = rw c.stopped-in-Broken.ensures (record { read_on = c.loop-count.invariant; stopped_before = broken _ _ _ _ _ _ (sym c.read_entry.ensures ∙ c.in-Broken.is) })

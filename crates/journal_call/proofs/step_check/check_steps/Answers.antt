@@ -5,7 +5,7 @@ use Rattle.journal_call.proofs.step_check.Answering.{refused_answered, ready, ki
 use Rattle.journal_call.proofs.step_check.check_steps.Goals as goal
 
 pub returns-then-r-ne0 : goal.returns-then-r-ne0
-returns-then-r-ne0 c = let a = c.args in refused_answered _ _ a.threads.now a.kinds.now a.domains.now _ c.early_refusal_of-r.ensures c.if-r-ne0.true _ c.number_index.ensures
+returns-then-r-ne0 c = let a = c.args in refused_answered _ _ a.threads.now a.kinds.now a.domains.now _ c.early_refusal_of-r.ensures c.if-r-ne0.true _ refl
 
 pub check_all-found-requires : goal.check_all-found-requires
 check_all-found-requires c = let refusal_is = c.early_refusal_of-r.ensures in

@@ -2,14 +2,7 @@
 use native.Mathlib.Omega.{arith}
 use Rattle.journal_call.proofs.reader.Stretching.{nothing}
 use Rattle.journal_call.proofs.pieces.Fours.{four_read, four_others}
-use borrow.Author.Rules.{rules}
 use Rattle.journal_call.proofs.pieces.alike.read_others.Goals as goal
-
-pub overflow_add-count : goal.overflow_add-count
-overflow_add-count c = search (rules, c.requires.threads_left)
-
-pub overflow_add-position-then-all_known : goal.overflow_add-position-then-all_known
-overflow_add-position-then-all_known c = search (rules, c.requires.bytes_left)
 
 pub returns-then-all_known : goal.returns-then-all_known
 returns-then-all_known c = let a = c.args in

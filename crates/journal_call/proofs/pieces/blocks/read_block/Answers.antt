@@ -8,42 +8,15 @@ use Rattle.journal_call.proofs.reader.Stretching.{nothing, one, more, threads_lo
 use Rattle.journal_call.proofs.pieces.Sizes.{entry_read, no_entry}
 use Rattle.journal_call.proofs.pieces.blocks.read_block.Goals as goal
 
-pub sizes_from-sizes-requires : goal.sizes_from-sizes-requires
-sizes_from-sizes-requires c = c.requires.position_in_bounds
-
 pub loop-count-init : goal.loop-count-init
 loop-count-init c = let none : c.args.position + 0 ≡ c.args.position = omega arith in
     (omega arith, rw none (nothing _ _ _ _ _ _ _ (omega (arith, c.requires)) (omega (arith, c.requires))))
 
-pub overflow_add-at : goal.overflow_add-at
-overflow_add-at c = omega (arith, c.loop-count.invariant, c.requires)
-
-pub bounds-journal-at : goal.bounds-journal-at
-bounds-journal-at c = omega (arith, c.loop-count.invariant, c.requires)
-
 pub returns-then-bits-gt3 : goal.returns-then-bits-gt3
 returns-then-bits-gt3 c = rw c.stopped.ensures (record { read_on = c.loop-count.invariant.1; stopped_before = broken _ _ _ _ _ _ (no_entry c.args.journal.now (c.args.position + c.loop-count.passed) c.loop-count.last _ (omega (arith, c.loop-count.invariant, c.requires)) refl c.if-bits-gt3.true) })
 
-pub thread_at-thread-requires : goal.thread_at-thread-requires
-thread_at-thread-requires c = record { bits_bound = omega (arith, c.if-bits-gt3.false, c.from-map.ensures); position_in_bounds = omega (arith, c.loop-count.invariant, c.requires) }
-
 pub returns-then-known-from : goal.returns-then-known-from
 returns-then-known-from c = rw c.stopped-then-known-from.ensures (record { read_on = c.loop-count.invariant.1; stopped_before = unknown _ _ _ _ _ _ _ _ _ (entry_read c.args.journal.now (c.args.position + c.loop-count.passed) c.loop-count.last c.from-map.result (omega (arith, c.loop-count.invariant, c.requires)) c.from-map.ensures _ _ _ (omega (arith, c.if-bits-gt3.false, c.from-map.ensures)) c.thread_at-thread.ensures refl refl) (omega (arith, c.if-known-from.true, c.from.ensures)) })
-
-pub bounds-threads-count : goal.bounds-threads-count
-bounds-threads-count c = omega (arith, threads_long _ _ _ _ _ _ _ _ _ _ _ _ c.loop-count.invariant.1, c.requires)
-
-pub kind_at-requires : goal.kind_at-requires
-kind_at-requires c = record { bits_bound = omega (arith, c.if-bits-gt3.false, c.from-map.ensures); position_in_bounds = omega (arith, c.loop-count.invariant, c.requires) }
-
-pub bounds-kinds-count : goal.bounds-kinds-count
-bounds-kinds-count c = omega (arith, kinds_long _ _ _ _ _ _ _ _ _ _ _ _ c.loop-count.invariant.1, c.requires)
-
-pub bounds-sizes-passed : goal.bounds-sizes-passed
-bounds-sizes-passed c = omega (arith, c.loop-count.invariant, c.requires)
-
-pub overflow_add-passed : goal.overflow_add-passed
-overflow_add-passed c = omega (arith, c.loop-count.invariant, c.requires)
 
 pub loop-count-preserved : goal.loop-count-preserved
 loop-count-preserved c = let few : c.from-map.result ≤ 3 = omega (arith, c.if-bits-gt3.false, c.from-map.ensures) in
@@ -57,9 +30,6 @@ loop-count-preserved c = let few : c.from-map.result ≤ 3 = omega (arith, c.if-
           (entry_read c.args.journal.now (c.args.position + c.loop-count.passed) c.loop-count.last c.from-map.result left c.from-map.ensures _ _ _ few c.thread_at-thread.ensures c.kind_at.ensures (omega (arith, size)))
           (omega (arith, c.if-known-from.false, c.from.ensures))),
     )
-
-pub overflow_add-position : goal.overflow_add-position
-overflow_add-position c = omega (arith, c.loop-count.invariant, c.requires)
 
 pub returns : goal.returns
 returns c = let all : c.loop-count.count ≡ c.args.end = omega arith in

@@ -24,9 +24,9 @@ overflow_add-at c = omega (arith, c.loop-n.invariant.0.row_place, c.loop-n-test.
 
 pub loop-n-preserved : goal.loop-n-preserved
 loop-n-preserved c = let part : c.loop-n.from + get_or c.args.lengths.now c.loop-n.n-index 0 - c.loop-n.from ≡ get_or c.args.lengths.now c.loop-n.n-index 0 = omega arith in (
-      turn _ _ _ _ _ _ _ _ c.loop-n.invariant.0 c.loop-n-test.true _ _ (ap (λ m. take m (drop c.loop-n.from c.args.entries.now)) part) c.run_row.ensures,
-      c.run_row.auto.trace ∙ c.loop-n.invariant.1,
-    )
+  turn _ _ _ _ _ _ _ _ c.loop-n.invariant.0 c.loop-n-test.true _ _ (ap (λ m. take m (drop c.loop-n.from c.args.entries.now)) part) c.run_row.ensures,
+  c.run_row.auto.trace ∙ c.loop-n.invariant.1,
+)
 
 pub returns : goal.returns
 returns c = ends _ _ _ _ _ _ _ _ c.loop-n.invariant.0 (omega arith)
