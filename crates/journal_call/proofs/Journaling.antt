@@ -26,11 +26,10 @@ use Rattle.model.proofs.Laws.Calls.{early_accepted}
 use Rattle.model.proofs.Laws.Counters.{counter_form_law}
 use Rattle.model.proofs.Laws.Refusals.{accepted_number}
 use Rattle.refusals.specs.Lowest.{Lowest}
-use Rattle.refusals.specs.declared.Refusal.{Refusal as RefusalWords}
-use Rattle.refusals.specs.Arrays.{refusal_words}
+use Rattle.refusals.specs.declared.reasons.Refusal as refusals
 use Rattle.refusals.specs.declared.reasons.Reason.{Reason}
 use Rattle.refusals.specs.Reasons.{number_of}
-use Rattle.refusals.proofs.RunTests.{refusal_words_not, refusal_words_zero}
+use Rattle.refusals.proofs.Refusing.{reason_numbered}
 use Rattle.journal_call.specs.declared.reader.Piece.{Piece}
 use Rattle.journal_call.specs.Reader.Stretches.{position_after, Stretch, Stops}
 use Rattle.journal_call.specs.Pieces.Pieces.{PieceRead}
@@ -60,14 +59,10 @@ module _ (w : TreeWords) (bs : List ℕ) where
   unfolding journal_answer journal_refusal
   answers ok s p b g r e = rw (eq-eqb (tree_refusal t).number 0 ok) (ap replied (sym e ∙ g.ahead))
 
-  -- the tree, by the result of its tests
-  module _ (r : RefusalWords) (e : r ≡ refusal_words (tree_refusal t)) where
-    pub tree_refused : (r.number ≡ 0 → ⊥) → record { number = r.number; place = r.place } ≡ journal_answer w bs
-    unfolding journal_answer journal_refusal
-    tree_refused n = rw (e, ne_eqb (tree_refusal t).number 0 (refusal_words_not r _ e n))
-
-    pub tree_passes : r.number ≡ 0 → (tree_refusal t).number ≡ 0
-    tree_passes z = refusal_words_zero r _ e z
+  -- the answer if the tests of the tree refuse it
+  pub tree_refused : (x : refusals.Refusal) → refusal (number_of x.reason) x.place ≡ tree_refusal t → record { number = number_of x.reason; place = x.place } ≡ journal_answer w bs
+  unfolding journal_answer journal_refusal refusal
+  tree_refused x e = rw (sym e, ne_eqb (number_of x.reason) 0 (reason_numbered x.reason))
 
   module _ (ok : (tree_refusal t).number ≡ 0) where
     fresh_is : fresh_lock w ≡ fresh_words

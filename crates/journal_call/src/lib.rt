@@ -14,21 +14,14 @@ use journal::JournalReply;
 use model::TreeWords;
 
 // The check of a journal: 0 if its threads, stepped one after another from a fresh lock, take steps of its kinds; else the number and the first byte of the first refused entry.
-pub fn check_journal(tree: TreeWords, journal: &[u8]) -> JournalReply
-    ensures { result ≡ journal_answer tree journal.now }
+pub fn check_journal(tree: &TreeWords, journal: &[u8]) -> JournalReply
+    ensures { result ≡ journal_answer tree.now journal.now }
 {
-    let r = refusals::tree_refusal_of(
-        &tree.parents,
-        &tree.thresholds,
-        &tree.homes,
-        tree.domains,
-        tree.threads,
-    );
-    if r.number != 0 {
-        return JournalReply {
-            number: r.number,
-            place: r.place as usize,
-        };
+    match refusals::tree_refusal_of(tree) {
+        Ok(()) => journals::check_entries(tree, journal),
+        Err(refusal) => JournalReply {
+            number: refusal.number(),
+            place: refusal.place as usize,
+        },
     }
-    journals::check_entries(tree, journal)
 }

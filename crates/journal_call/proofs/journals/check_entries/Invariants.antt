@@ -2,12 +2,11 @@
 use mathlib.Core.Path.{◌≡◌}
 use Prim.Native.Nat.{◌-◌}
 use lib.ListN.{length}
-use Rattle.refusals.specs.Arrays.{lent_state}
 use Rattle.journal_call.specs.Journals.{SoFar}
-use Rattle.journal_call.proofs.journals.walk_entries.Given as goal
+use Rattle.journal_call.proofs.journals.check_entries.Given as goal
 
 abbrev pub invariant-loop-position : goal.invariant-loop-position
-invariant-loop-position l = (l.reader.journal.now ≡ l.journal) × SoFar l.tree l.journal (lent_state l.tails l.nexts l.statuses l.rows l.domains l.peers l.words l.ticket l.granted) l.reader.position l.reader.before
+invariant-loop-position l = (l.reader.journal.now ≡ l.journal) × SoFar l.tree l.journal l.state.words l.reader.position l.reader.before
 
 abbrev pub decreases-loop-position : goal.decreases-loop-position
 decreases-loop-position l = length l.journal - l.reader.position
