@@ -26,17 +26,6 @@ pub capped_large : (n : ℕ) → 18446744073709551615 ≤ n → capped n ≡ 184
 unfolding capped
 capped_large n h = omega arith
 
--- a product, tested by a quotient
-pub product_none : (h n : ℕ) → h ≡ 0 → 0 ≡ capped (h * n)
-unfolding capped
-product_none h n e = rw e (omega arith)
-
-pub product_fits : (h n : ℕ) → 0 < h → n ≤ 18446744073709551615 / h → h * n ≤ 18446744073709551615
-product_fits h n p l = rw (mul_comm h n) ((le-div_iff_mul-le p).0 l)
-
-pub product_large : (h n : ℕ) → 0 < h → 18446744073709551615 / h < n → 18446744073709551615 < h * n
-product_large h n p l = rw (mul_comm h n) ((div-lt_iff_lt-mul p).0 l)
-
 -- multiplying by a capped number and capping gives the capped product
 pub capped_times : (h n : ℕ) → 1 ≤ h → capped (h * capped n) ≡ capped (h * n)
 capped_times h n p =
