@@ -1,18 +1,14 @@
 -- A tree given by its arrays: a word that is read is the array's.
-use mathlib.Core.Path.{◌≡◌, refl, ap}
+use mathlib.Core.Path.{◌≡◌, refl}
 use mathlib.Core.Bool.{Bool, true, false, not}
 use mathlib.Core.List.{List}
 use Prim.Native.Nat.{ℕ, ◌<◌}
 use native.Mathlib.Omega.{arith}
 use native.Mathlib.Nat.{mod-eq_of_lt}
 use lib.ListN.{get_or}
-use Rattle.model.specs.declared.TreeWords.{TreeWords}
 use Rattle.model.specs.Trees.{tree_of}
-use Rattle.model.specs.Refusals.{tree_refusal}
-use Rattle.model.specs.Laws.{RootLaw}
-use Rattle.model.proofs.Laws.Root.{root_law}
 use Rattle.model.proofs.Trees.Reading.{read_in}
-use Rattle.refusals.specs.Arrays.{tree_in, refusal_words}
+use Rattle.refusals.specs.Arrays.{tree_in}
 
 module _ (n m : ℕ) (ps ts hs : List ℕ) where
   pub parent_in : (d : ℕ) → 0 < d → d < n → (tree_in n m ps ts hs).parent d ≡ get_or ps d 0
@@ -30,8 +26,3 @@ module _ (n m : ℕ) (ps ts hs : List ℕ) where
 pub not_not : (b : Bool) → not (not b) ≡ b
 not_not true = refl
 not_not false = refl
-
--- the tests do not read the kind of root
-pub refusal_words_same : (w : TreeWords) → refusal_words (tree_refusal (tree_in w.domains w.threads w.parents w.thresholds w.homes)) ≡ refusal_words (tree_refusal (tree_of w))
-unfolding tree_of RootLaw
-refusal_words_same w = ap refusal_words (root_law (tree_of w) false)

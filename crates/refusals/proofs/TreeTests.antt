@@ -1,6 +1,6 @@
 -- The tests of a tree in order: what the scans answer is the tree's refusal.
 use mathlib.Core.Path.{◌≡◌, refl, sym, ap, fun_ext, ◌∙◌}
-use mathlib.Core.Bool.{Bool}
+use mathlib.Core.Bool.{Bool, true, false}
 use mathlib.Core.List.{List, [], ◌++◌}
 use Prim.Native.Nat.{ℕ, zero, suc, ◌≤◌, ◌<◌}
 use native.Mathlib.Omega.{arith}
@@ -14,12 +14,14 @@ use Rattle.model.proofs.Tests.{or_neither}
 use Rattle.model.proofs.Refusing.{tests_pass, numbered}
 use Rattle.model.proofs.Trees.Accepted.{Accepted, but_zero, accepted_before}
 use Rattle.model.proofs.Laws.Refusals.{accepted_number}
-use Rattle.refusals.specs.declared.Refusal.{Refusal}
-use Rattle.refusals.specs.Arrays.{tree_in, parents_in, Lower, refusal_words, shape_tests}
+use Rattle.refusals.specs.declared.reasons.Refusal.{Refusal}
+use Rattle.refusals.specs.Reasons.{number_of}
+use Rattle.refusals.specs.Arrays.{tree_in, parents_in, Lower, shape_tests}
 use Rattle.refusals.specs.Lowest.{Lowest}
 use Rattle.refusals.proofs.Reading.{parent_in}
 use Rattle.refusals.proofs.Scanning.{single_hit, single_missed, test_hit, test_missed}
-use Rattle.refusals.proofs.Joining.{first_decides, other_decides}
+use Rattle.refusals.proofs.Joining.{other_decides}
+use Rattle.refusals.proofs.Refusing.{ok_numbered, refused_early, passed_early}
 
 -- what holds after 4 to 6 refuse nothing
 pub record Shape (w : TreeWords) : Type 0 where
@@ -73,37 +75,16 @@ module _ (w : TreeWords) where
       lowest_same w.threads (bad_home (tree_in w.domains w.threads w.parents [] w.homes)) (bad_home t) p (λ j. refl) L
 
   -- 4 and 5
-  pub no_domains : w.domains ≡ 0 → first_refusal (count_tests t) ≡ refusal 4 0
-  unfolding bad_domains tree_of
-  no_domains e = single_hit _ _ refl (rw (eq-eqb w.domains 0 e))
+  pub domains_refused : bad_domains t 0 ≡ true → first_refusal (count_tests t) ≡ refusal 4 0
+  domains_refused e = single_hit _ _ refl e
 
-  module _ (n : w.domains ≡ 0 → ⊥) where
-    pub many_domains : 64 < w.domains → first_refusal (count_tests t) ≡ refusal 4 0
-    unfolding bad_domains tree_of
-    many_domains e = single_hit _ _ refl (rw (ne_eqb w.domains 0 n, lt-ltb 64 w.domains e))
+  module _ (e : bad_domains t 0 ≡ false) where
+    pub threads_refused : bad_threads t 0 ≡ true → first_refusal (count_tests t) ≡ refusal 5 0
+    threads_refused f = single_missed _ _ refl e ∙ single_hit _ _ refl f
 
-    module _ (e : w.domains ≤ 64) where
-      after_four : first_refusal (count_tests t) ≡ first_refusal (drop 1 (count_tests t))
-      unfolding bad_domains tree_of
-      after_four = single_missed _ _ refl (rw (ne_eqb w.domains 0 n, le-ltb 64 w.domains e))
-
-      pub no_threads : w.threads ≡ 0 → first_refusal (count_tests t) ≡ refusal 5 0
-      unfolding bad_threads tree_of
-      no_threads f = after_four ∙ single_hit _ _ refl (rw (eq-eqb w.threads 0 f))
-
-      module _ (m : w.threads ≡ 0 → ⊥) where
-        pub many_threads : 256 < w.threads → first_refusal (count_tests t) ≡ refusal 5 0
-        unfolding bad_threads tree_of
-        many_threads f = after_four ∙ single_hit _ _ refl (rw (ne_eqb w.threads 0 m, lt-ltb 256 w.threads f))
-
-        pub counts_pass : w.threads ≤ 256 → first_refusal (count_tests t) ≡ accepted
-        unfolding bad_threads tree_of first_refusal
-        counts_pass f = after_four ∙ single_missed _ [] refl (rw (ne_eqb w.threads 0 m, le-ltb 256 w.threads f))
-
-  -- 4 and 5 read nothing else
-  counts_alone : first_refusal (count_tests (tree_in w.domains w.threads [] [] [])) ≡ first_refusal (count_tests t)
-  unfolding bad_domains bad_threads tree_of
-  counts_alone = refl
+    pub counts_pass : bad_threads t 0 ≡ false → first_refusal (count_tests t) ≡ accepted
+    unfolding first_refusal
+    counts_pass f = single_missed _ (drop 1 (count_tests t)) refl e ∙ single_missed _ [] refl f
 
   -- 6 to 8
   module _ (p₆ : ℕ) (L₆ : Lowest w.domains (bad_parent (parents_in w.domains w.parents)) p₆) where
@@ -134,54 +115,29 @@ module _ (w : TreeWords) where
         domains_pass h = after_seven h₇ ∙ test_missed _ [] p₈ (thresholds_of p₈ L₈) h
 
   -- 6 to 8 read neither threads nor homes
-  domains_alone : first_refusal (domain_tests (tree_in w.domains 0 w.parents w.thresholds [])) ≡ first_refusal (domain_tests t)
+  pub domains_alone : first_refusal (domain_tests (tree_in w.domains 0 w.parents w.thresholds [])) ≡ first_refusal (domain_tests t)
   unfolding bad_parent no_threshold tree_of
   domains_alone = rw (levels_alone 0 w.thresholds [])
 
-  -- 4 and 5, then 6 to 8
-  module _ (k : Refusal) (f : k ≡ refusal_words (first_refusal (count_tests (tree_in w.domains w.threads [] [] [])))) where
-    counted : k ≡ refusal_words (first_refusal (count_tests t))
-    counted = f ∙ ap refusal_words counts_alone
+  -- 4 and 5 refuse nothing
+  pub few_domains : accepted ≡ first_refusal (count_tests t) → (0 < w.domains) × (w.domains ≤ 64)
+  unfolding bad_domains tree_of
+  few_domains e =
+      let c₄ = tests_pass _ (drop 1 (count_tests t)) (omega arith) (ok_numbered e) in
+      let d₄ = or_neither (eqb w.domains 0) (ltb 64 w.domains) (c₄.0 0 (omega arith)) in
+      let some = eqb-false w.domains 0 d₄.0 in
+      (omega arith, ltb-false 64 w.domains d₄.1)
 
-    pub counts_refused : (k.number ≡ 0 → ⊥) → k ≡ refusal_words (first_refusal (shape_tests t))
-    counts_refused n = counted ∙ ap refusal_words (sym (first_decides (count_tests t) (domain_tests t) (λ z. n (ap (λ q. q.number) counted ∙ z))))
+  pub counts_refused : (x : Refusal) → refusal (number_of x.reason) x.place ≡ first_refusal (count_tests t) → refusal (number_of x.reason) x.place ≡ first_refusal (shape_tests t)
+  counts_refused x e = refused_early (count_tests t) (domain_tests t) x e
 
-    module _ (z : k.number ≡ 0) where
-      pub few_domains : (0 < w.domains) × (w.domains ≤ 64)
-      unfolding bad_domains tree_of
-      few_domains =
-          let c₄ = tests_pass _ (drop 1 (count_tests t)) (omega arith) (sym (ap (λ q. q.number) counted) ∙ z) in
-          let d₄ = or_neither (eqb w.domains 0) (ltb 64 w.domains) (c₄.0 0 (omega arith)) in
-          let some = eqb-false w.domains 0 d₄.0 in
-          (omega arith, ltb-false 64 w.domains d₄.1)
+  pub domains_decide : accepted ≡ first_refusal (count_tests t) → first_refusal (shape_tests t) ≡ first_refusal (domain_tests t)
+  unfolding has_number
+  domains_decide e = passed_early (count_tests t) (domain_tests t) (numbered (count_tests t) refl) e
 
-      pub domains_decide :
-          (q : Refusal) → q ≡ refusal_words (first_refusal (domain_tests (tree_in w.domains 0 w.parents w.thresholds []))) →
-          q ≡ refusal_words (first_refusal (shape_tests t))
-      unfolding has_number
-      domains_decide q g =
-          g
-          ∙ ap refusal_words
-          (domains_alone
-          ∙ sym (other_decides (count_tests t) (domain_tests t) (numbered (count_tests t) refl) (sym (ap (λ q. q.number) counted) ∙ z)))
-
-  -- 4 to 8 do not read homes
-  shape_alone : first_refusal (shape_tests (tree_in w.domains w.threads w.parents w.thresholds [])) ≡ first_refusal (shape_tests t)
-  unfolding bad_domains bad_threads bad_parent no_threshold tree_of
-  shape_alone = rw (levels_alone w.threads w.thresholds [])
-
-  -- 4 to 8, then 9 and 16
-  module _ (r : Refusal) (e : r ≡ refusal_words (first_refusal (shape_tests (tree_in w.domains w.threads w.parents w.thresholds [])))) where
-    whole : r ≡ refusal_words (first_refusal (shape_tests t))
-    whole = e ∙ ap refusal_words shape_alone
-
-    pub shape_refused : (r.number ≡ 0 → ⊥) → r ≡ refusal_words (tree_refusal t)
-    unfolding tree_refusal tree_tests
-    shape_refused n =
-        whole ∙ ap refusal_words (sym (first_decides (shape_tests t) (home_tests t ++ empty_tests t) (λ z. n (ap (λ q. q.number) whole ∙ z))))
-
-    pub shape_passed : r.number ≡ 0 → (first_refusal (shape_tests t)).number ≡ 0
-    shape_passed z = sym (ap (λ q. q.number) whole) ∙ z
+  pub shape_refused : (x : Refusal) → refusal (number_of x.reason) x.place ≡ first_refusal (shape_tests t) → refusal (number_of x.reason) x.place ≡ tree_refusal t
+  unfolding tree_refusal tree_tests
+  shape_refused x e = refused_early (shape_tests t) (home_tests t ++ empty_tests t) x e
 
   module _ (passed : (first_refusal (shape_tests t)).number ≡ 0) where
     pub shape : Shape w

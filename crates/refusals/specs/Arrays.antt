@@ -7,9 +7,7 @@ use Rattle.model.specs.declared.TreeWords.{TreeWords}
 use Rattle.model.specs.Scans.{any_below}
 use Rattle.model.specs.Trees.{Tree, tree_of, is_leaf}
 use Rattle.model.proofs.Trees.Index.{ancestor}
-use Rattle.model.specs.Refusals as model
 use Rattle.model.specs.Refusals.{accepted, Test, first_refusal, count_tests, domain_tests, state_tests, schedule_tests, room_tests, tree_tests}
-use Rattle.refusals.specs.declared.Refusal.{Refusal}
 
 -- tree words with these arrays. The kind of root is 0: no test of a tree reads it
 abbrev pub words_in : (domains threads : ℕ) → (parents thresholds homes : List ℕ) → TreeWords
@@ -94,10 +92,6 @@ pub record PassedBy (t : Tree) (domain : ℕ) : Type 0 where
 pub record Occupied (t : Tree) (table : List Bool) : Type 0 where
   pub marked : (i k : ℕ) → i < t.threads → get_or table (ancestor t i k) false ≡ true
   pub only : (d : ℕ) → d < t.domains → get_or table d false ≡ true → PassedBy t d
-
--- the model's refusal as this crate's struct
-abbrev pub refusal_words : model.Refusal → Refusal
-refusal_words r = record { number = r.number; place = r.place }
 
 -- the tree for a test that reads only the number of threads
 abbrev pub threads_in : (threads : ℕ) → Tree

@@ -1,32 +1,15 @@
 // The check of a state that a host has kept: the tests of its tree, then 10 for the state, and nothing else.
 ghost use Rattle.std.specs.Prelude.{◌≡◌};
-ghost use Rattle.refusals.specs.Arrays.{refusal_words};
+ghost use Rattle.refusals.specs.Reasons.{refusal_of};
 ghost use Rattle.refusals.specs.StateCheck.Answers.{check_answer};
 
-use crate::Refusal;
+use crate::of_runs::lent_refusal_of;
+use crate::reasons::Refusal;
 use model::{LockState, TreeWords};
 
-// Number and place of what refuses the state; 0 and 0 if every call accepts it.
-pub fn check_state(tree: TreeWords, state: LockState) -> Refusal
-    ensures { result ≡ refusal_words (check_answer tree state) }
+// What refuses the state; nothing if every call accepts it.
+pub fn check_state(tree: &TreeWords, state: &LockState) -> Result<(), Refusal>
+    ensures { refusal_of result ≡ check_answer tree.now state.now }
 {
-    let counters = state.counters;
-    let schedule = [0u16; 0];
-    crate::of_runs::lent_refusal_of(
-        tree,
-        &state.words.tails,
-        &state.words.nexts,
-        &state.words.statuses,
-        &state.words.places.rows,
-        &state.words.places.domains,
-        &state.words.places.peers,
-        &state.words.places.words,
-        state.words.ticket,
-        state.words.grant,
-        &counters.entries,
-        &counters.tenures,
-        &counters.longest,
-        &schedule,
-        0,
-    )
+    lent_refusal_of(tree, state, &[], 0)
 }

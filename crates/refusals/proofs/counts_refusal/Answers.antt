@@ -1,26 +1,35 @@
--- `refusals::counts_refusal` meets its contract: its four tests are 4 and 5, in order.
-use mathlib.Core.List.{[]}
-use Prim.Native.Nat.{ℕ}
+-- `refusals::counts_refusal` meets its contract: its tests are 4 and 5, in order.
+use mathlib.Core.Path.{◌≡◌, sym}
+use mathlib.Core.Bool.{false}
+use Prim.Native.Nat.{◌≤◌}
+use borrow.Author.Tests.{eq-eqb, ne_eqb, lt-ltb, le-ltb}
 use Rattle.model.specs.declared.TreeWords.{TreeWords}
-use Rattle.model.specs.Refusals.{accepted}
-use Rattle.refusals.proofs.TreeTests as tests
+use Rattle.model.specs.Trees.{tree_of}
+use Rattle.model.specs.Refusals.{bad_domains, bad_threads}
+use Rattle.refusals.proofs.TreeTests.{domains_refused, threads_refused, counts_pass}
 use Rattle.refusals.proofs.counts_refusal.Goals as goal
+use Rattle.refusals.proofs.counts_refusal.Goals.{then-tree-eq0-via-then-tree-eq0, then-tree-eq0-via-else-tree-eq0+then-tree-gt64, then-tree-eq0-2-via-then-tree-eq0-2, then-tree-eq0-2-via-else-tree-eq0-2+then-tree-gt256}
 
-abbrev words : (domains threads : ℕ) → TreeWords
-words n m = record { domains = n; threads = m; parents = []; thresholds = []; homes = []; ticket_root = 0 }
+pub returns-then-tree-eq0 : goal.returns-then-tree-eq0
+unfolding bad_domains tree_of
+returns-then-tree-eq0 c = rw c.at.ensures (sym (domains_refused c.args.tree.now (
+    elim c.then-tree-eq0.branch [
+      | then-tree-eq0-via-then-tree-eq0 w ↦ rw (eq-eqb _ _ w.if-tree-eq0.true)
+      | then-tree-eq0-via-else-tree-eq0+then-tree-gt64 w ↦ rw (ne_eqb _ _ w.if-tree-eq0.false, lt-ltb _ _ w.if-tree-gt64.true)
+    ])))
 
-pub returns-then-domains-eq0 : goal.returns-then-domains-eq0
-returns-then-domains-eq0 c = rw (c.refusal_at.ensures, tests.no_domains (words c.args.domains c.args.threads) c.if-domains-eq0.true)
+few_enough : (w : TreeWords) → (w.domains ≡ 0 → ⊥) → w.domains ≤ 64 → bad_domains (tree_of w) 0 ≡ false
+unfolding bad_domains tree_of
+few_enough w n l = rw (ne_eqb _ _ n, le-ltb _ _ l)
 
-pub returns-then-domains-gt64 : goal.returns-then-domains-gt64
-returns-then-domains-gt64 c = rw (c.refusal_at-then-domains-gt64.ensures, tests.many_domains (words c.args.domains c.args.threads) c.if-domains-eq0.false c.if-domains-gt64.true)
-
-pub returns-then-threads-eq0 : goal.returns-then-threads-eq0
-returns-then-threads-eq0 c = rw (c.refusal_at-then-threads-eq0.ensures, tests.no_threads (words c.args.domains c.args.threads) c.if-domains-eq0.false c.if-domains-gt64.false c.if-threads-eq0.true)
-
-pub returns-then-threads-gt256 : goal.returns-then-threads-gt256
-returns-then-threads-gt256 c = rw (c.refusal_at-then-threads-gt256.ensures, tests.many_threads (words c.args.domains c.args.threads) c.if-domains-eq0.false c.if-domains-gt64.false c.if-threads-eq0.false c.if-threads-gt256.true)
+pub returns-then-tree-eq0-2 : goal.returns-then-tree-eq0-2
+unfolding bad_threads tree_of
+returns-then-tree-eq0-2 c = rw c.at-then-tree-eq0-2.ensures (sym (threads_refused c.args.tree.now (few_enough _ c.if-tree-eq0.false c.if-tree-gt64.false) (
+    elim c.then-tree-eq0-2.branch [
+      | then-tree-eq0-2-via-then-tree-eq0-2 w ↦ rw (eq-eqb _ _ w.if-tree-eq0-2.true)
+      | then-tree-eq0-2-via-else-tree-eq0-2+then-tree-gt256 w ↦ rw (ne_eqb _ _ w.if-tree-eq0-2.false, lt-ltb _ _ w.if-tree-gt256.true)
+    ])))
 
 pub returns : goal.returns
-unfolding accepted
-returns c = rw (c.refusal_at-2.ensures, tests.counts_pass (words c.args.domains c.args.threads) c.if-domains-eq0.false c.if-domains-gt64.false c.if-threads-eq0.false c.if-threads-gt256.false)
+unfolding bad_threads tree_of
+returns c = sym (counts_pass c.args.tree.now (few_enough _ c.if-tree-eq0.false c.if-tree-gt64.false) (rw (ne_eqb _ _ c.if-tree-eq0-2.false, le-ltb _ _ c.if-tree-gt256.false)))

@@ -1,18 +1,19 @@
 -- The test of the counters by arrays is the model's.
-use mathlib.Core.Path.{◌≡◌, refl, sym, ap, ◌∙◌}
+use mathlib.Core.Path.{◌≡◌, refl}
 use mathlib.Core.Bool.{Bool, true, false, ◌&&◌, not, cond, false≢true}
-use mathlib.Core.List.{List, []}
+use mathlib.Core.List.{List}
 use Prim.Native.Nat.{ℕ, ◌≤◌, ◌<◌, ◌%◌}
 use native.Mathlib.Omega.{arith}
 use native.Mathlib.Nat.{mod-eq_of_lt}
 use lib.Dec.{eqb, ltb, leb}
 use lib.ListN.{get_or}
 use borrow.Author.Tests.{eqb-true, eqb-false, le-leb, leb-true}
+use Rattle.model.specs.declared.TreeWords.{TreeWords}
+use Rattle.model.specs.declared.Counters.{Counters}
 use Rattle.model.specs.Trees.{read_word, tree_of}
 use Rattle.model.specs.Counters.{most_counted, good_count}
 use Rattle.model.proofs.Tests.{and_both, and_false}
-use Rattle.refusals.specs.Arrays.{tree_in}
-use Rattle.refusals.specs.OfRuns.Counts.{counters_in, count_in}
+use Rattle.refusals.specs.OfRuns.Counts.{count_in}
 
 -- a test against a bound of at most 2^63 includes the test against 2^63
 low_enough : (l h : ℕ) → h ≤ most_counted → leb l most_counted && leb l h ≡ leb l h
@@ -30,19 +31,25 @@ zero_low l h = by (eqb l 0) refl
     by false e = refl
 
 pub count_same :
-    (m : ℕ) (hs es ns ls : List ℕ) (d : ℕ) → get_or hs d 0 < 65536 →
-    good_count (tree_in m 0 [] hs []) (counters_in es ns ls) d ≡ count_in m d (get_or hs d 0) (get_or es d 0) (get_or ns d 0) (get_or ls d 0)
+    (w : TreeWords) (c : Counters) (d : ℕ) → get_or w.thresholds d 0 < 65536 →
+    good_count (tree_of w) c d ≡ count_in w.domains d (get_or w.thresholds d 0) (get_or c.entries d 0) (get_or c.tenures d 0) (get_or c.longest d 0)
 unfolding good_count tree_of read_word
-count_same m hs es ns ls d small = by (not (eqb d 0) && ltb d m) refl
+count_same w c d small = by (not (eqb d 0) && ltb d m) refl
   where
+    m : ℕ
+    m = w.domains
+
+    hs : List ℕ
+    hs = w.thresholds
+
     e : ℕ
-    e = get_or es d 0
+    e = get_or c.entries d 0
 
     n : ℕ
-    n = get_or ns d 0
+    n = get_or c.tenures d 0
 
     l : ℕ
-    l = get_or ls d 0
+    l = get_or c.longest d 0
 
     real : not (eqb d 0) && ltb d m ≡ true → cond (leb 1 d && ltb d m) (get_or hs d 0) 0 % 65536 ≡ get_or hs d 0
     real z =
@@ -59,9 +66,3 @@ count_same m hs es ns ls d small = by (not (eqb d 0) && ltb d m) refl
         ≡ cond b (leb e most_counted && (leb n most_counted && leb l (get_or hs d 0))) (eqb e 0 && (eqb n 0 && eqb l 0))
     by true z = rw (real z, low_enough l (get_or hs d 0) (omega arith))
     by false z = rw (zero_low l (cond (leb 1 d && ltb d m) (get_or hs d 0) 0 % 65536))
-
--- the test of a domain's counters, from the words that were read
-pub count_refusal_words :
-    (m : ℕ) (hs es ns ls : List ℕ) (d h : ℕ) (r : Bool) → h ≡ get_or hs d 0 → get_or hs d 0 < 65536 →
-    r ≡ count_in m d h (get_or es d 0) (get_or ns d 0) (get_or ls d 0) → r ≡ good_count (tree_in m 0 [] hs []) (counters_in es ns ls) d
-count_refusal_words m hs es ns ls d h r e small f = f ∙ ap (λ v. count_in m d v (get_or es d 0) (get_or ns d 0) (get_or ls d 0)) e ∙ sym (count_same m hs es ns ls d small)

@@ -1,28 +1,24 @@
 // The counters of a given state.
-ghost use Rattle.std.specs.Prelude.{◌≡◌, []};
-ghost use Rattle.model.specs.Counters.{good_counts};
-ghost use Rattle.refusals.specs.Arrays.{tree_in};
-ghost use Rattle.refusals.specs.OfRuns.Counts.{counters_in, zeros_in, count_in};
+ghost use Rattle.std.specs.Prelude.{◌≡◌, ◌<◌};
+ghost use Rattle.model.specs.Trees.{tree_of};
+ghost use Rattle.model.specs.Counters.{good_count, good_counts};
+ghost use Rattle.refusals.specs.OfRuns.Counts.{zeros_in, count_in};
 
-// The largest value of a counter, 2^63.
-const MOST: u64 = 9223372036854775808;
+use model::{Counters, TreeWords};
 
-fn zeros_at(entries: u64, tenures: u64, longest: u64) -> bool
+// The largest value of a counter.
+const MOST: u64 = 1 << 63;
+
+fn are_zeros(entries: u64, tenures: u64, longest: u64) -> bool
     ensures { result ≡ zeros_in entries tenures longest }
 {
-    if entries != 0 {
-        return false;
-    }
-    if tenures != 0 {
-        return false;
-    }
-    longest == 0
+    entries == 0 && tenures == 0 && longest == 0
 }
 
-// The counters of a domain; those of the root and of unused slots are 0.
-fn good_count_at(
+// The counters of a domain, by their values; those of the root and of unused slots are 0.
+fn count_fits(
     domains: u32,
-    d: u8,
+    d: u32,
     threshold: u16,
     entries: u64,
     tenures: u64,
@@ -30,42 +26,29 @@ fn good_count_at(
 ) -> bool
     ensures { result ≡ count_in domains d threshold entries tenures longest }
 {
-    if d == 0 {
-        return zeros_at(entries, tenures, longest);
+    if d == 0 || domains <= d {
+        return are_zeros(entries, tenures, longest);
     }
-    if domains <= d as u32 {
-        return zeros_at(entries, tenures, longest);
-    }
-    if MOST < entries {
-        return false;
-    }
-    if MOST < tenures {
-        return false;
-    }
-    longest <= threshold as u64
+    entries <= MOST && tenures <= MOST && longest <= u64::from(threshold)
 }
 
-// Whether all counters are good, in one pass.
-pub(crate) fn good_counts<'c>(
-    thresholds: &[u16; 64],
-    domains: u32,
-    entries: &'c [u64; 64],
-    tenures: &'c [u64; 64],
-    longest: &'c [u64; 64],
-) -> bool
-    ensures { result ≡ good_counts (tree_in domains 0 [] thresholds.now []) (counters_in entries.now tenures.now longest.now) }
+fn good_count_at(tree: &TreeWords, counters: &Counters, d: usize) -> bool
+    requires { d < 64 }
+    ensures { result ≡ good_count (tree_of tree.now) counters.now d }
 {
-    let mut d: u8 = 0;
-    while d < 64 {
-        let at = d as usize;
-        let threshold = casts::of_16_bits(thresholds[at]);
-        let e = entries[at];
-        let n = tenures[at];
-        let l = longest[at];
-        if !good_count_at(domains, d, threshold, e, n, l) {
-            return false;
-        }
-        d += 1;
-    }
-    true
+    count_fits(
+        tree.domains,
+        d as u32,
+        tree.thresholds[d],
+        counters.entries[d],
+        counters.tenures[d],
+        counters.longest[d],
+    )
+}
+
+// Whether all counters are good.
+pub(crate) fn good_counts(tree: &TreeWords, counters: &Counters) -> bool
+    ensures { result ≡ good_counts (tree_of tree.now) counters.now }
+{
+    (0..64).all(|d| good_count_at(tree, counters, d))
 }

@@ -1,25 +1,21 @@
 -- `refusals::of_runs::lent_refusal_of` meets its contract: the tests of the tree, of the state's counters and of its words, then the schedule's.
-use mathlib.Core.Path.{◌∙◌}
-use mathlib.Core.Bool.{true, false}
-use borrow.Author.Tests.{not-true, not-false}
-use Rattle.model.specs.Trees.{tree_of}
-use Rattle.refusals.proofs.Reading.{refusal_words_same}
-use Rattle.refusals.proofs.Scanning.{by_answer}
-use Rattle.refusals.proofs.of_runs.StateTests.{tree_refuses, counts_refuse, words_refuse, schedule_answers, counts_of_tree, tree_accepted}
+use mathlib.Core.Path.{sym, ◌∙◌}
+use Rattle.refusals.proofs.Refusing.{error_passed, ok_numbered}
+use Rattle.refusals.proofs.of_runs.StateTests.{tree_refuses, counts_refuse, words_refuse, schedule_answers}
 use Rattle.refusals.proofs.of_runs.lent_refusal_of.Goals as goal
 
-pub returns-then-r-ne0 : goal.returns-then-r-ne0
-returns-then-r-ne0 c = tree_refuses c.args.tree _ _ _ _ (c.tree_refusal_of-r.ensures ∙ refusal_words_same c.args.tree) c.if-r-ne0.true
+pub returns-in_err-tree_refusal_of : goal.returns-in_err-tree_refusal_of
+returns-in_err-tree_refusal_of c = error_passed c.from_residual.result _ c.from_residual.ensures.1 (tree_refuses c.args.tree.now c.args.state.now _ _ _ c.in_err-tree_refusal_of.ensures)
 
 pub returns-then-not-good_counts : goal.returns-then-not-good_counts
-returns-then-not-good_counts c = counts_refuse c.args.tree _ _ _ _ (c.tree_refusal_of-r.ensures ∙ refusal_words_same c.args.tree) c.if-r-ne0.false (by_answer _ false (c.good_counts.ensures ∙ counts_of_tree c.args.tree _) (not-true _ c.if-not-good_counts.true-raw)) _ c.refusal_at.ensures
+returns-then-not-good_counts c = rw c.at.ensures (counts_refuse c.args.tree.now c.args.state.now _ _ c.in_ok-tree_refusal_of.ensures (sym c.if-not-good_counts.ensures))
 
 pub is_well_formed-requires : goal.is_well_formed-requires
-is_well_formed-requires c = tree_accepted (tree_of c.args.tree) c.tree_refusal_of-r.result (c.tree_refusal_of-r.ensures ∙ refusal_words_same c.args.tree) c.if-r-ne0.false
+is_well_formed-requires c = ok_numbered c.in_ok-tree_refusal_of.ensures
 
 pub returns-then-not-is_well_formed : goal.returns-then-not-is_well_formed
-returns-then-not-is_well_formed c = words_refuse c.args.tree _ _ _ _ (c.tree_refusal_of-r.ensures ∙ refusal_words_same c.args.tree) c.if-r-ne0.false (by_answer _ false c.is_well_formed.ensures (not-true _ c.if-not-is_well_formed.true-raw)) _ c.refusal_at-then-not-is_well_formed.ensures
+returns-then-not-is_well_formed c = rw c.at-then-not-is_well_formed.ensures (words_refuse c.args.tree.now c.args.state.now _ _ c.in_ok-tree_refusal_of.ensures (sym c.if-not-is_well_formed.ensures))
 
 pub returns : goal.returns
-returns c = schedule_answers c.args.tree _ _ _ _ (c.tree_refusal_of-r.ensures ∙ refusal_words_same c.args.tree) c.if-r-ne0.false (by_answer _ true (c.good_counts.ensures ∙ counts_of_tree c.args.tree _) (not-false _ c.if-not-good_counts.false-raw))
-    (by_answer _ true c.is_well_formed.ensures (not-false _ c.if-not-is_well_formed.false-raw)) _ c.schedule_refusal_of.ensures
+returns c = c.schedule_refusal_of.ensures
+    ∙ schedule_answers c.args.tree.now c.args.state.now _ _ c.in_ok-tree_refusal_of.ensures (sym c.if-not-good_counts.ensures) (sym c.if-not-is_well_formed.ensures)
