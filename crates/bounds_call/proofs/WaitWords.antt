@@ -5,7 +5,7 @@ use mathlib.Core.Bool.{Bool, true, false, cond, false≢true}
 use mathlib.Core.List.{List}
 use Prim.Native.Nat.{ℕ, suc, ◌+◌, ◌*◌, ◌-◌, ◌/◌, ◌≤◌, ◌<◌}
 use native.Mathlib.Omega.{arith}
-use lib.Dec.{eqb, ltb}
+use lib.Dec.{ltb}
 use lib.ListN.{get_or, length, set, replicate, length-set}
 use lib.Seq.{get_or-set_same, get_or-set_other}
 use borrow.Author.Tests.{eq-eqb, ne_eqb, lt-ltb, le-ltb}
@@ -19,14 +19,12 @@ use Rattle.model.proofs.Trees.Accepted.{Accepted, accepted}
 use Rattle.model.proofs.Trees.Records.{Member, a_thread, a_domain, member_facts}
 use Rattle.model.proofs.Trees.Allowances.{thread_allowance}
 use Rattle.model.proofs.Trees.Reading.{home_read, parent_read, few_domains, few_threads}
-use Rattle.refusals.specs.declared.Refusal.{Refusal}
-use Rattle.refusals.specs.Arrays.{refusal_words}
 use Rattle.refusals.proofs.Reading.{threshold_in}
 use Rattle.bounds.specs.StarvationFreedom.Bounds.{members}
 use Rattle.bounds.specs.LongestWait.Bounds.{effective_threshold, effective, passes, others_passes, tenures_for_all, member_wait, wait_bound}
 use Rattle.bounds.proofs.starvation_freedom.Effective.{effective_accepted}
 use Rattle.bounds.proofs.longest_wait.Waits.{above_wait, wait_at}
-use Rattle.bounds.specs.Answers.{capped, words_from, wait_word, wait_bounds_answer, wait_bounds_left}
+use Rattle.bounds.specs.Answers.{capped, words_from, wait_word}
 use Rattle.bounds_call.specs.Arrays.{Allowed}
 use Rattle.bounds_call.specs.Waits.{word_of, added_above, Owned, Counted, Others, Above}
 use Rattle.std.specs.Prelude.{Option, None, Some}
@@ -234,18 +232,3 @@ module _ (w : TreeWords) (ok : (tree_refusal (tree_of w)).number ≡ 0) where
           less_or x w.threads _
           (λ s. rw (y, lt-ltb x w.threads s) (so_far.done x (omega arith)))
           (λ s. rw (y, le-ltb x w.threads s) (so_far.rest x (omega arith)))
-
--- THE BUFFER
-pub waits_refused_left :
-    (w : TreeWords) (b : List ℕ) (r : Refusal) → r ≡ refusal_words (wait_bounds_answer w) → r.number ≢ 0 → b ≡ wait_bounds_left w b
-unfolding wait_bounds_left
-waits_refused_left w b r e n = rw (ne_eqb (wait_bounds_answer w).number 0 (λ z. n (ap (λ x. x.number) e ∙ z)))
-
-pub waits_accepted : (w : TreeWords) (r : Refusal) → r ≡ refusal_words (wait_bounds_answer w) → r.number ≡ 0 → (tree_refusal (tree_of w)).number ≡ 0
-unfolding wait_bounds_answer
-waits_accepted w r e z = sym (ap (λ (x : Refusal). x.number) e) ∙ z
-
-pub waits_accepted_left :
-    (w : TreeWords) (b ws : List ℕ) → (tree_refusal (tree_of w)).number ≡ 0 → ws ≡ words_from (wait_word (tree_of w)) 256 0 → ws ≡ wait_bounds_left w b
-unfolding wait_bounds_left wait_bounds_answer
-waits_accepted_left w b ws ok e = rw (eq-eqb (tree_refusal (tree_of w)).number 0 ok) e

@@ -1,35 +1,17 @@
 -- What the call for allowances keeps and leaves, given the words of its tree.
-use mathlib.Core.Path.{◌≡◌, sym, ap, ◌∙◌}
+use mathlib.Core.Path.{◌≡◌, ◌∙◌}
 use mathlib.Core.Bool.{cond}
 use mathlib.Core.List.{List}
-use mathlib.Core.Logic.{◌≢◌}
 use Prim.Native.Nat.{ℕ, suc, ◌*◌, ◌≤◌, ◌<◌}
 use native.Mathlib.Omega.{arith}
 use lib.ListN.{get_or, length, set}
-use borrow.Author.Tests.{eq-eqb, ne_eqb}
 use Rattle.model.specs.declared.TreeWords.{TreeWords}
 use Rattle.model.specs.Scans.{largest_below}
 use Rattle.model.specs.Trees.{tree_of, is_child, is_leaf}
 use Rattle.model.specs.Refusals.{tree_refusal}
 use Rattle.model.proofs.Trees.Accepted.{accepted}
-use Rattle.refusals.specs.declared.Refusal.{Refusal}
-use Rattle.refusals.specs.Arrays.{refusal_words}
-use Rattle.bounds.specs.Answers.{capped, allowance_word, words_from, allowances_answer, allowances_left}
+use Rattle.bounds.specs.Answers.{capped, allowance_word, words_from}
 use Rattle.bounds_call.proofs.Filling.{Filled, filled_next, filled_all, member_word, next_word}
-
-pub refused_left : (w : TreeWords) (b : List ℕ) (r : Refusal) → r ≡ refusal_words (allowances_answer w) → r.number ≢ 0 → b ≡ allowances_left w b
-unfolding allowances_left
-refused_left w b r e n = rw (ne_eqb (allowances_answer w).number 0 (λ z. n (ap (λ x. x.number) e ∙ z)))
-
-pub accepted_number : (w : TreeWords) (r : Refusal) → r ≡ refusal_words (allowances_answer w) → r.number ≡ 0 → (tree_refusal (tree_of w)).number ≡ 0
-unfolding allowances_answer
-accepted_number w r e z = sym (ap (λ (x : Refusal). x.number) e) ∙ z
-
-pub accepted_left :
-    (w : TreeWords) (b ws : List ℕ) (d : ℕ) → (tree_refusal (tree_of w)).number ≡ 0 → d ≡ 1 → Filled (tree_of w) d ws → length ws ≡ 64 →
-    ws ≡ allowances_left w b
-unfolding allowances_left allowances_answer
-accepted_left w b ws d ok e filled l = rw (eq-eqb (tree_refusal (tree_of w)).number 0 ok) (filled_all (tree_of w) ws (rw e at filled) l)
 
 -- one more domain: its threshold times the largest word of its members
 pub filled_more :

@@ -3,11 +3,13 @@ ghost use Rattle.std.specs.Prelude.{◌≡◌, cond, ◌<◌, ◌≤◌, get_or,
 ghost use Rattle.model.specs.Scans.{any_below, largest_below};
 ghost use Rattle.model.specs.Trees.{tree_of, is_child, is_leaf, level};
 ghost use Rattle.model.specs.Refusals.{tree_refusal};
+ghost use Rattle.refusals.specs.Reasons.{refusal_of};
 ghost use Rattle.bounds.specs.StarvationFreedom.Bounds.{levels};
 ghost use Rattle.bounds.specs.Answers.{allowance_word, words_from};
 ghost use Rattle.bounds_call.specs.Waits.{Owned};
 
 use model::TreeWords;
+use refusals::reasons::Refusal;
 
 #[derive(Clone, Copy)]
 pub(crate) struct AcceptedTree<'a> {
@@ -21,6 +23,17 @@ fn word_at(words: &[u16; 64], d: usize) -> u16
     ensures { result ≡ get_or words.now d 0 }
 {
     words[d]
+}
+
+impl<'a> AcceptedTree<'a> {
+    // The tree, if a fresh lock accepts it.
+    pub(crate) fn of(tree: &'a TreeWords) -> Result<AcceptedTree<'a>, Refusal>
+        ensures refused { refusal_of result ≡ tree_refusal (tree_of tree.now) }
+        ensures words { IfOk result (λ accepted. accepted.words.now ≡ tree.now) }
+    {
+        refusals::tree_refusal_of(tree)?;
+        Ok(AcceptedTree { words: tree })
+    }
 }
 
 impl AcceptedTree<'_> {

@@ -50,7 +50,7 @@ impl<'a> Rounds<'a> {
         let acquired = links.saturating_add(all.saturating_mul(above));
         let released = acquired.saturating_add(others.saturating_mul(5 * level));
         let standing = released.saturating_add((2 + self.deepest).saturating_mul(passes));
-        standing.saturating_add(3)
+        3u64.saturating_add(standing)
     }
 
     // The rounds above a domain: at the root the one that enters, elsewhere those of its own record in its parent.

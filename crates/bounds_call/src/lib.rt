@@ -1,9 +1,12 @@
 // The allowances of a tree's domains, and the rounds in which every thread enters.
 #![tactic(auto)]
 
-ghost use Rattle.std.specs.Prelude.{◌≡◌};
-ghost use Rattle.refusals.specs.Arrays.{refusal_words};
-ghost use Rattle.bounds.specs.Answers.{allowances_answer, allowances_left, rounds_answer};
+ghost use Rattle.std.specs.Prelude.{◌≡◌, ◌*◌, IfOk};
+ghost use Rattle.model.specs.Trees.{tree_of};
+ghost use Rattle.model.specs.Refusals.{tree_refusal};
+ghost use Rattle.refusals.specs.Reasons.{refusal_of};
+ghost use Rattle.bounds.specs.StarvationFreedom.Bounds.{everyone_bound};
+ghost use Rattle.bounds.specs.Answers.{capped, allowances_answer, allowances_left, rounds_answer};
 
 mod accepted_tree;
 mod everyone;
@@ -15,48 +18,45 @@ use bounds::RoundsReply;
 use everyone::Rounds;
 use members::Members;
 use model::TreeWords;
-use refusals::Refusal;
+use refusals::reasons::Refusal;
 
 // The allowances of an accepted tree, in a buffer for 64 domains; if refused, the buffer is unchanged.
-pub fn allowances(tree: &TreeWords, buffer: &mut [u64; 64]) -> Refusal
-    ensures value { result ≡ refusal_words (allowances_answer tree.now) }
+pub fn allowances(tree: &TreeWords, buffer: &mut [u64; 64]) -> Result<(), Refusal>
+    ensures value { refusal_of result ≡ allowances_answer tree.now }
     ensures buffer_after { buffer.new ≡ allowances_left tree.now buffer.old }
 {
-    let refusal = refusals::tree_refusal_of(
-        &tree.parents,
-        &tree.thresholds,
-        &tree.homes,
-        tree.domains,
-        tree.threads,
-    );
-    if refusal.number == 0 {
-        let accepted = AcceptedTree { words: tree };
-        *buffer = accepted.allowances();
-    }
-    refusal
+    *buffer = AcceptedTree::of(tree)?.allowances();
+    Ok(())
+}
+
+// The rounds of an accepted tree, and how many turns these are in round robin.
+fn rounds_of(tree: &TreeWords) -> Result<(u64, u64), Refusal>
+    ensures refused { refusal_of result ≡ tree_refusal (tree_of tree.now) }
+    ensures rounds { IfOk result (λ r. r.0 ≡ capped (everyone_bound (tree_of tree.now))) }
+    ensures turns { IfOk result (λ r. r.1 ≡ capped (everyone_bound (tree_of tree.now) * tree.now.threads)) }
+{
+    let members = Members::of(AcceptedTree::of(tree)?);
+    let everyone = Rounds::of(members).everyone();
+    let turns = everyone.saturating_mul(u64::from(tree.threads));
+    Ok((everyone, turns))
 }
 
 // In how many rounds of any fair schedule every thread enters, and how many turns these are in round robin.
 pub fn rounds(tree: &TreeWords) -> RoundsReply
     ensures { result ≡ rounds_answer tree.now }
 {
-    let refusal = refusals::tree_refusal_of(
-        &tree.parents,
-        &tree.thresholds,
-        &tree.homes,
-        tree.domains,
-        tree.threads,
-    );
-    let mut reply = RoundsReply {
-        number: refusal.number,
-        place: refusal.place,
-        rounds: 0,
-        turns: 0,
-    };
-    if refusal.number == 0 {
-        let members = Members::of(AcceptedTree { words: tree });
-        reply.rounds = Rounds::of(members).everyone();
-        reply.turns = reply.rounds.saturating_mul(u64::from(tree.threads));
+    match rounds_of(tree) {
+        Ok((rounds, turns)) => RoundsReply {
+            number: 0,
+            place: 0,
+            rounds,
+            turns,
+        },
+        Err(refusal) => RoundsReply {
+            number: refusal.number(),
+            place: refusal.place,
+            rounds: 0,
+            turns: 0,
+        },
     }
-    reply
 }

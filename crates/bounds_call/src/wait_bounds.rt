@@ -1,11 +1,24 @@
 // W of every thread: what the domains above add, from the root down, and the passes of the others in the thread's home.
 ghost use Rattle.std.specs.Prelude.{◌≡◌, ◌<◌};
 ghost use Rattle.model.specs.Trees.{tree_of};
-ghost use Rattle.refusals.specs.Arrays.{refusal_words};
+ghost use Rattle.refusals.specs.Reasons.{refusal_of};
 ghost use Rattle.bounds.specs.Answers.{capped, words_from, wait_word, wait_bounds_answer, wait_bounds_left};
 ghost use Rattle.bounds_call.specs.Waits.{added_above, Above};
 
+use crate::accepted_tree::AcceptedTree;
 use crate::members::{Members, tenures_of};
+use model::TreeWords;
+use refusals::reasons::Refusal;
+
+// W of every thread of an accepted tree, in a buffer for 256 threads; if refused, the buffer is unchanged.
+pub fn wait_bounds(tree: &TreeWords, buffer: &mut [u64; 256]) -> Result<(), Refusal>
+    ensures value { refusal_of result ≡ wait_bounds_answer tree.now }
+    ensures buffer_after { buffer.new ≡ wait_bounds_left tree.now buffer.old }
+{
+    let members = Members::of(AcceptedTree::of(tree)?);
+    *buffer = members.waits();
+    Ok(())
+}
 
 impl Members<'_> {
     // What a domain adds to the wait of each of its members, given what its parent adds.

@@ -1,5 +1,5 @@
 -- From the last record down, the passes of the others in its domain.
-use mathlib.Core.Path.{refl, ◌∙◌, ap}
+use mathlib.Core.Path.{refl, ap}
 use native.Mathlib.Omega.{arith}
 use lib.ListN.{set}
 use Rattle.bounds.specs.Answers.{capped}

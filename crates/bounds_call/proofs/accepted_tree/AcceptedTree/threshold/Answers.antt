@@ -1,8 +1,5 @@
 -- A threshold is the word that the tree reads.
-use mathlib.Core.Path.{sym, ◌∙◌}
 use native.Mathlib.Omega.{arith}
-use Rattle.model.specs.Trees.{tree_of}
-use Rattle.model.proofs.Trees.Accepted.{accepted}
 use Rattle.model.proofs.Trees.Reading.{few_domains}
 use Rattle.bounds_call.proofs.WaitWords.{threshold_read, threshold_some}
 use Rattle.bounds_call.proofs.accepted_tree.AcceptedTree.threshold.Goals as goal

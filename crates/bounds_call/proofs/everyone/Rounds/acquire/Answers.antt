@@ -1,6 +1,5 @@
 -- The definition's sums and products in order; capped one by one, they give the capped whole.
-use mathlib.Core.Path.{refl, ap, ◌∙◌}
-use Prim.Native.Nat.{◌+◌, ◌*◌}
+use mathlib.Core.Path.{refl, ◌∙◌}
 use native.Mathlib.Omega.{arith}
 use Rattle.model.proofs.Trees.Reading.{few_domains}
 use Rattle.bounds.specs.Answers.{capped}

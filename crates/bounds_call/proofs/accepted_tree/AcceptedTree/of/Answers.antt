@@ -1,0 +1,8 @@
+-- The tests refuse nothing.
+use mathlib.Core.Path.{sym, ap}
+use Rattle.model.specs.Refusals.{Refusal, accepted, refusal}
+use Rattle.bounds_call.proofs.accepted_tree.AcceptedTree.of.Goals as goal
+
+pub invariant_of-result : goal.invariant_of-result
+unfolding accepted refusal
+invariant_of-result c = record { accepted = ap (λ (r : Refusal). r.number) (sym c.in_ok-tree_refusal_of.ensures) }
