@@ -2,10 +2,9 @@
 use mathlib.Core.Path.{◌≡◌, refl, ap, ◌∙◌}
 use mathlib.Core.Bool.{Bool, true, false, cond}
 use Rattle.std.specs.Int.{from_bool}
-use Prim.Native.Nat.{ℕ, zero, suc, ◌+◌, ◌*◌, ◌-◌, ◌/◌, ◌%◌, ◌<◌, ◌≤◌, min}
+use Prim.Native.Nat.{ℕ, zero, suc, ◌+◌, ◌*◌}
 use native.Mathlib.Omega.{arith}
-use native.Mathlib.Nat.{mul_comm, le-div_iff_mul-le, div-lt_iff_lt-mul}
-use Rattle.std.proofs.lemmas.Grind.{div_ceil_times}
+use native.Mathlib.Nat.{mul_comm}
 use Rattle.bounds.specs.Answers.{capped}
 use Rattle.bounds_call.proofs.Filling.{capped_times}
 
@@ -30,19 +29,6 @@ capped_right (suc a) b = capped_times (suc a) b (omega arith)
 
 pub capped_first : (a b : ℕ) → capped (capped a * b) ≡ capped (a * b)
 capped_first a b = ap capped (mul_comm (capped a) b) ∙ capped_right b a ∙ ap capped (mul_comm b a)
-
--- the quotient rounded up, as a quotient
-pub rounded_up : (n h : ℕ) → 0 < h → n / h + min 1 (n % h) ≡ (n + h - 1) / h
-rounded_up n h p =
-    let q = n / h + min 1 (n % h) in
-    let t = div_ceil_times n h p in
-    let low : q ≤ (n + h - 1) / h = (le-div_iff_mul-le p).1 (omega (arith, t.1)) in
-    let s : (q + 1) * h ≡ q * h + h = add_mul_one q h in
-    let high : (n + h - 1) / h < q + 1 = (div-lt_iff_lt-mul p).1 (omega (arith, t.0, s)) in
-    omega (arith, low, high)
-  where
-    add_mul_one : (a b : ℕ) → (a + 1) * b ≡ a * b + b
-    add_mul_one a b = grind arith
 
 -- a Boolean as a number
 pub one_if : (b : Bool) → from_bool b ≡ cond b 1 0

@@ -67,6 +67,7 @@ impl<'a> Rounds<'a> {
     }
 
     // The rounds above every domain. A parent's number is lower, so the root comes first.
+    // Kept: the loop of `all_added_above` once more; a function of both would take a closure, with a contract longer than the loop.
     fn all_rounds_above(&self) -> [u64; 64]
         ensures { RoundsAbove (tree_of self.now.members.tree.words.now) self.now.members.tree.words.now.domains result }
     {

@@ -54,6 +54,7 @@ pub(crate) fn effective_of(threshold: u16, members: u64) -> u16
 }
 
 // The passes of each domain. A child's number is above its parent's, so the last domain comes first.
+// Kept: the loop of `allowances` with another threshold; a function of both would take a closure, with a contract longer than the loop.
 fn passes_of(tree: &AcceptedTree, counts: &[u64; 64]) -> [u64; 64]
     requires { Counted (tree_of tree.now.words.now) counts.now }
     ensures { Allowed (effective (tree_of tree.now.words.now)) result }

@@ -101,12 +101,6 @@ module _ (w : TreeWords) (s : LockState) (i : ℕ) (b : List ℕ) where
         measured : (n ≡ length followed) × (length followed ≢ 0)
         measured = this_length followed n (sym z ∙ f.length_is)
 
-        pub length_known : n ≡ length followed
-        length_known = measured.0
-
-        pub length_few : n ≤ w.threads
-        length_few = omega (arith, measured.0, f.few)
-
         pub answered : accepted ≡ answer
         answered = sym (not_refused (tree_of w) s i (length b) passed enough measured.1)
 

@@ -11,7 +11,7 @@ use Rattle.model.specs.Trees.{Tree, on_path, own_record, owner_domain, is_member
 use Rattle.model.specs.States.{acquire_parent, status, numbers_at}
 use Rattle.model.specs.Acts.{sends_inside, acts}
 use Rattle.model.proofs.Trees.Index.{ancestor, record_at}
-use Rattle.chain.specs.Chain.{stays, acts_ahead, ticket_before, looks_to, only}
+use Rattle.chain.specs.Chain.{acts_ahead, ticket_before}
 use Rattle.chain.proofs.Stays.{waits_in}
 
 -- A COUNT OF THREADS, with one more thread
@@ -89,21 +89,10 @@ pub record Filled (t : Tree) (s : State) (n : ℕ) (ahead : List Count) (linking
   pub linking_keys : (j : ℕ) → j < n → get_or linking j None ≡ link_key (numbers_at s.places j)
   pub ticket_keys : (j : ℕ) → j < n → get_or tickets j None ≡ cond (acts t s j 0 && ltb (status s (own_record t j 0)) 65536) (Some (status s (own_record t j 0))) None
 
--- A LINK to the only thread looked to, if there is one
+-- A LINK to the only thread looked to, if there is one; otherwise the chain breaks off
 abbrev pub to : Option ℕ → Link
 to None = Broken
 to (Some j) = To j
-
--- the number that `only` gives
-abbrev pub number_or_zero : Option ℕ → ℕ
-number_or_zero None = 0
-number_or_zero (Some j) = suc j
-
--- a link of the definition: the thread moves on, or looks to exactly one thread, or to none or several
-pub record LinkOf (t : Tree) (s : State) (thread : ℕ) (link : Link) : Type 0 where
-  pub moves : link ≡ Moves → stays t s thread ≡ false
-  pub broken : link ≡ Broken → (stays t s thread ≡ true) × (only (looks_to t s thread) ≡ 0)
-  pub leads : (j : ℕ) → link ≡ To j → (stays t s thread ≡ true) × (only (looks_to t s thread) ≡ suc j) × (j < t.threads)
 
 -- the only thread with a key
 abbrev pub only_with : (keys : List (Option ℕ)) → (threads key : ℕ) → Option ℕ
