@@ -1,47 +1,48 @@
 -- Which bytes are not valid homes, in one pass over the parents.
 use mathlib.Core.Path.{◌≡◌, refl, sym, ap, ◌∙◌}
-use mathlib.Core.Bool.{Bool, true, false, ◌||◌, true≢false, false≢true}
-use mathlib.Core.List.{List, []}
-use Prim.Native.Nat.{ℕ, ◌+◌, ◌≤◌, ◌<◌}
+use mathlib.Core.Bool.{Bool, true, false, ◌||◌, ◌&&◌, not, cond, true≢false, false≢true}
+use mathlib.Core.List.{List, [], ◌∷◌, ◌++◌}
+use Prim.Native.Nat.{ℕ, ◌+◌, ◌-◌, ◌≤◌, ◌<◌}
 use native.Mathlib.Numerals.{add-one}
 use native.Mathlib.Omega.{arith}
 use native.Mathlib.Decide.{ℕ_discrete}
 use lib.Dec.{eqb, leb}
-use lib.ListN.{get_or, set, length, replicate, length-set, length-replicate, get_or-replicate}
+use lib.ListN.{get_or, set, length, drop, replicate, length-set, length-replicate, get_or-replicate}
 use lib.Seq.{get_or-set_same, get_or-set_other}
-use borrow.Author.Tests.{eq-eqb, ne_eqb, lt-leb, le-leb, leb-true, leb-false}
+use borrow.Author.Tests.{eq-eqb, ne_eqb, leb-true, leb-false}
 use Rattle.model.specs.Scans.{any_below, all_below}
+use Rattle.model.specs.declared.TreeWords.{TreeWords}
 use Rattle.model.specs.Trees.{tree_of, is_child, is_leaf}
 use Rattle.model.specs.Refusals.{bad_home}
 use Rattle.model.proofs.Tests.{or_right, any_found, all_each}
 use Rattle.model.proofs.Trees.Reading.{read_in}
-use Rattle.refusals.specs.Arrays.{tree_in, parents_in, no_home_in, NoDomains, UnfitHomes, is_home_in, MarkedHomes, HomesAreLeaves, differ}
+use Rattle.refusals.specs.Arrays.{parents_in, no_home_in, UnfitHomes, is_home_in, MarkedHomes, HomesAreLeaves}
+use Rattle.std.specs.List.{fold, zip}
+use Rattle.std.proofs.lemmas.List.{length-append, length-drop, get_or-drop, get_or_append_left, get_or-append_right}
+use Rattle.refusals.proofs.Ranges.{all_split}
 use Rattle.refusals.proofs.Reading.{parent_in, not_not}
 
--- the bytes that are no domain's number
-pub outside_first : NoDomains 0 (replicate 256 true)
-outside_first = record { room = refl; no_domain = λ x l. get_or-replicate 256 x true false l ∙ sym (le-leb 0 x (omega arith)) }
+-- for each byte, whether it is not the number of a domain below n
+pub record NoDomains (n : ℕ) (table : List Bool) : Type 0 where
+  pub room : length table ≡ 256
+  pub no_domain : (x : ℕ) → x < 256 → get_or table x false ≡ leb n x
 
-leb_past : (d x : ℕ) → (x ≡ d → ⊥) → leb d x ≡ leb (d + 1) x
-leb_past d x e = by (leb d x) refl
-  where
-    by : (b : Bool) → leb d x ≡ b → leb d x ≡ leb (d + 1) x
-    by true f = let g = leb-true d x f in f ∙ sym (le-leb (d + 1) x (omega arith))
-    by false f = let g = leb-false d x f in f ∙ sym (lt-leb (d + 1) x (omega arith))
-
-pub outside_next : (d : ℕ) (bs : List Bool) → d < 256 → NoDomains d bs → NoDomains (d + 1) (set bs d false)
-outside_next d bs w N =
+pub no_domains : (n : ℕ) → n ≤ 256 → NoDomains n (replicate n false ++ drop n (replicate 256 true))
+no_domains n few =
     record {
-      room = length-set bs d false ∙ N.room;
-      no_domain = λ x h.
-          elim (ℕ_discrete x d) [
-            | yes e ↦ rw (e, lt-leb (d + 1) d (omega arith)) (get_or-set_same bs d false false (omega (arith, N.room)))
-            | no e ↦ get_or-set_other bs d x false false e ∙ N.no_domain x h ∙ leb_past d x e
-          ];
+      room = rw (length-append (replicate n false) (drop n (replicate 256 true)), length-replicate {A = Bool} n false, length-drop n (replicate 256 true), length-replicate {A = Bool} 256 true) (omega arith);
+      no_domain = λ x l. by x l (leb n x) refl;
     }
-
-pub outside_all : (n d : ℕ) (bs : List Bool) → d ≡ n → NoDomains d bs → NoDomains n bs
-outside_all n d bs e N = rw (← e) N
+  where
+    by : (x : ℕ) → x < 256 → (b : Bool) → leb n x ≡ b → get_or (replicate n false ++ drop n (replicate 256 true)) x false ≡ leb n x
+    by x l false e =
+        let h = leb-false n x e in
+        get_or_append_left (replicate n false) _ false x (rw (length-replicate {A = Bool} n false) h) ∙ get_or-replicate n x false false h ∙ sym e
+    by x l true e =
+        let h = leb-true n x e in
+        let back : n + (x - n) ≡ x = omega arith in
+        get_or-append_right (replicate n false) (drop n (replicate 256 true)) n x false (length-replicate {A = Bool} n false) h
+        ∙ get_or-drop n (replicate 256 true) (x - n) false ∙ ap (λ k. get_or (replicate 256 true) k false) back ∙ get_or-replicate 256 x true false l ∙ sym e
 
 or_none : (a b : Bool) → b ≡ false → a || b ≡ a
 or_none true b e = refl
@@ -88,17 +89,17 @@ module _ (n : ℕ) (ps : List ℕ) where
             (C.marks x h ∙ ap (λ k. leb n x || any_below k (is_child (parents_in n ps) x)) e);
       }
 
--- THE HOMES of the threads below i, in a table that is long enough
-module _ (hs : List ℕ) (size : ℕ) where
+-- THE HOMES of the threads below i
+module _ (hs : List ℕ) where
   pub record MarkedBelow (bs : List Bool) (i : ℕ) : Type 0 where
-    pub room : length bs ≡ size
-    pub marks : (x : ℕ) → x < size → get_or bs x false ≡ is_home_in i hs x
+    pub room : length bs ≡ 256
+    pub marks : (x : ℕ) → x < 256 → get_or bs x false ≡ is_home_in i hs x
 
-  pub marked_none : MarkedBelow (replicate size false) 0
+  pub marked_none : MarkedBelow (replicate 256 false) 0
   unfolding any_below
-  marked_none = record { room = length-replicate {A = Bool} size false; marks = λ x l. get_or-replicate size x false false l }
+  marked_none = record { room = length-replicate {A = Bool} 256 false; marks = λ x l. get_or-replicate 256 x false false l }
 
-  pub marked_more : (bs : List Bool) (i : ℕ) → MarkedBelow bs i → get_or hs i 0 < size → MarkedBelow (set bs (get_or hs i 0) true) (i + 1)
+  pub marked_more : (bs : List Bool) (i : ℕ) → MarkedBelow bs i → get_or hs i 0 < 256 → MarkedBelow (set bs (get_or hs i 0) true) (i + 1)
   unfolding any_below
   marked_more bs i C w =
       record {
@@ -114,9 +115,30 @@ module _ (hs : List ℕ) (size : ℕ) where
             ];
       }
 
+-- exactly one of two Booleans is true
+abbrev pub differ : Bool → Bool → Bool
+differ a b = cond a (not b) b
+
+and_true : (a : Bool) → a && true ≡ a
+and_true true = refl
+and_true false = refl
+
+joined : (a b c : Bool) → (a && b) && c ≡ (a && (b && c))
+joined true b c = refl
+joined false b c = refl
+
 -- if the two tables differ at every byte, homes and leaves are the same
 abbrev pub alike : (marked bad : List Bool) → ℕ → Bool
 alike ms bs x = differ (get_or ms x false) (get_or bs x false)
+
+-- one pass over both tables
+pub fold_alike : (ms bs : List Bool) (a : Bool) → length ms ≡ length bs → fold (λ same (p : Bool × Bool). same && differ p.0 p.1) a (zip ms bs) ≡ (a && all_below (length ms) (alike ms bs))
+unfolding all_below
+fold_alike [] [] a e = sym (and_true a)
+fold_alike [] (b ∷ bs) a e = absurd (omega (arith, e))
+fold_alike (m ∷ ms) [] a e = absurd (omega (arith, e))
+fold_alike (m ∷ ms) (b ∷ bs) a e =
+    fold_alike ms bs (a && differ m b) (omega (arith, e)) ∙ joined a (differ m b) (all_below (length ms) (alike ms bs)) ∙ ap (λ c. a && c) (sym (all_split (length ms) (alike (m ∷ ms) (b ∷ bs))))
 
 pub tables_differ :
     (n m : ℕ) (ps hs : List ℕ) (ms bs : List Bool) (r : Bool) → n ≤ 64 → MarkedHomes m hs ms → UnfitHomes n ps bs → r ≡ all_below 256 (alike ms bs) →
@@ -144,13 +166,12 @@ tables_differ n m ps hs ms bs r few marks homes e =
 
 -- whether a home is bad, from that table
 pub home_test :
-    (n m : ℕ) (ps hs : List ℕ) (bs : List Bool) (i h : ℕ) → UnfitHomes n ps bs → i < m → h ≡ get_or hs i 0 → h < 256 →
-    get_or bs h false ≡ bad_home (tree_in n m ps [] hs) i
+    (w : TreeWords) (bs : List Bool) (i : ℕ) → UnfitHomes w.domains w.parents bs → i < w.threads → get_or w.homes i 0 < 256 →
+    get_or bs (get_or w.homes i 0) false ≡ bad_home (tree_of w) i
 unfolding bad_home is_leaf is_child tree_of
-home_test n m ps hs bs i h N l e f = rw (read_in 0 m hs i (omega arith) l, ← e) (N.no_home h f)
+home_test w bs i N l small = rw (read_in 0 w.threads w.homes i (omega arith) l) (N.no_home (get_or w.homes i 0) small)
 
 -- the same if the answer was that all homes are leaves
-pub leaf_test :
-    (n m : ℕ) (ps hs : List ℕ) (i : ℕ) → i < m → no_home_in n ps (get_or hs i 0) ≡ false → bad_home (tree_in n m ps [] hs) i ≡ false
+pub leaf_test : (w : TreeWords) (i : ℕ) → i < w.threads → no_home_in w.domains w.parents (get_or w.homes i 0) ≡ false → bad_home (tree_of w) i ≡ false
 unfolding bad_home is_leaf is_child tree_of
-leaf_test n m ps hs i l e = rw (read_in 0 m hs i (omega arith) l) e
+leaf_test w i l e = rw (read_in 0 w.threads w.homes i (omega arith) l) e

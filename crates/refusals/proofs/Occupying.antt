@@ -1,7 +1,7 @@
 -- THREADS UNDER DOMAINS: a loop from the highest domain down marks those on some thread's path; if all leaves are homes, that is every domain.
 use mathlib.Core.Path.{◌≡◌, refl, sym, ap, ◌∙◌}
 use mathlib.Core.Bool.{Bool, true, false, not, true≢false}
-use mathlib.Core.List.{List, []}
+use mathlib.Core.List.{List}
 use Prim.Native.Nat.{ℕ, zero, suc, ◌+◌, ◌-◌, ◌≤◌, ◌<◌}
 use native.Mathlib.Omega.{arith}
 use native.Mathlib.Decide.{ℕ_discrete}
@@ -14,14 +14,14 @@ use Rattle.model.specs.Trees.{Tree, tree_of, is_child, is_leaf, on_path}
 use Rattle.model.specs.Refusals.{accepted, first_refusal, tree_refusal, bad_home, empty_domain}
 use Rattle.model.specs.Laws.{HasThread}
 use Rattle.model.proofs.Tests.{any_found, any_one}
-use Rattle.model.proofs.Trees.Index.{above, ancestor}
+use Rattle.model.proofs.Trees.Index.{ancestor}
 use Rattle.model.proofs.Trees.Accepted.{Accepted, child_facts}
 use Rattle.model.proofs.Trees.Paths.{above_root, above_parent, ancestor_suc, ancestor_home, path_index, on_path_home, on_path_parent}
 use Rattle.model.proofs.Laws.Empty.{under_domain, one_there, none_there}
 use Rattle.model.proofs.Trees.Reading.{read_in}
-use Rattle.refusals.specs.Arrays.{tree_in, is_home_in, Lower, RealHomes, HomeDomains, HomesAreLeaves, PassedBy, Occupied, shape_tests}
+use Rattle.refusals.specs.Arrays.{is_home_in, Lower, RealHomes, MarkedHomes, HomesAreLeaves, PassedBy, Occupied, shape_tests}
 use Rattle.refusals.specs.Lowest.{Lowest}
-use Rattle.refusals.proofs.Reading.{parent_in, home_in}
+use Rattle.refusals.proofs.Reading.{parent_of, home_of}
 use Rattle.refusals.proofs.Homes.{leaf_test}
 use Rattle.refusals.proofs.TreeTests.{facts, tree_passes}
 use Rattle.refusals.proofs.Domains.{none_bad}
@@ -31,44 +31,56 @@ set_true : (bs : List Bool) (p x : ℕ) → p < length bs → get_or bs x false 
 set_true bs p x l e =
     elim (ℕ_discrete x p) [ yes z ↦ rw z (get_or-set_same bs p true false l) | no z ↦ get_or-set_other bs p x true false z ∙ e ]
 
-module _ (n m : ℕ) (ps hs : List ℕ) where
+module _ (w : TreeWords) where
+  abbrev n : ℕ
+  n = w.domains
+
+  abbrev m : ℕ
+  m = w.threads
+
+  abbrev ps : List ℕ
+  ps = w.parents
+
+  abbrev hs : List ℕ
+  hs = w.homes
+
   abbrev t : Tree
-  t = tree_in n m ps [] hs
+  t = tree_of w
+
+  -- what is marked once the domains numbered above d are done: homes, and the parents of those of them that are on a path
+  pub record MarkedDown (bs : List Bool) (d : ℕ) : Type 0 where
+    pub room : length bs ≡ 256
+    pub homes : (i : ℕ) → i < m → get_or bs (ancestor t i 0) false ≡ true
+    pub parents : (i k : ℕ) → i < m → d < ancestor t i k → get_or bs (ancestor t i (suc k)) false ≡ true
+    pub only : (x : ℕ) → x < n → get_or bs x false ≡ true → PassedBy t x
 
   module _ (few : n ≤ 64) (some : 0 < n) (low : Lower n ps) (real : RealHomes n m hs) where
     -- paths stay in the tree, and their numbers fall
     path_real : (i k : ℕ) → i < m → ancestor t i k < n
-    path_real i zero l = rw (ancestor_home, home_in n m ps [] hs i l) (real.real i l)
+    path_real i zero l = rw (ancestor_home, home_of w i l) (real.real i l)
     path_real i (suc k) l =
         let r = path_real i k l in
         elim (ℕ_discrete (ancestor t i k) 0) [
           | yes e ↦ rw (ancestor_suc, above_root t (ancestor t i k) e) some
           | no e ↦
               let p = low.lower (ancestor t i k) (omega arith) r in
-              rw (ancestor_suc, above_parent t (ancestor t i k) (omega arith), parent_in n m ps [] hs (ancestor t i k) (omega arith) r) (omega arith)
+              rw (ancestor_suc, above_parent t (ancestor t i k) (omega arith), parent_of w (ancestor t i k) (omega arith) r) (omega arith)
         ]
 
     next_up : (i k : ℕ) → i < m → 0 < ancestor t i k → ancestor t i (suc k) ≡ get_or ps (ancestor t i k) 0
     next_up i k l p =
-        ancestor_suc t i k ∙ above_parent t (ancestor t i k) p ∙ parent_in n m ps [] hs (ancestor t i k) p (path_real i k l)
+        ancestor_suc t i k ∙ above_parent t (ancestor t i k) p ∙ parent_of w (ancestor t i k) p (path_real i k l)
 
     path_falls : (i k : ℕ) → i < m → 0 < ancestor t i k → ancestor t i (suc k) < ancestor t i k
     path_falls i k l p = rw (next_up i k l p) (low.lower (ancestor t i k) p (path_real i k l))
 
-    -- what is marked once the domains numbered above d are done: homes, and the parents of those of them that are on a path
-    pub record MarkedDown (bs : List Bool) (d : ℕ) : Type 0 where
-      pub room : length bs ≡ 64
-      pub homes : (i : ℕ) → i < m → get_or bs (ancestor t i 0) false ≡ true
-      pub parents : (i k : ℕ) → i < m → d < ancestor t i k → get_or bs (ancestor t i (suc k)) false ≡ true
-      pub only : (x : ℕ) → x < n → get_or bs x false ≡ true → PassedBy t x
-
-    pub down_first : (bs : List Bool) (d : ℕ) → d + 1 ≡ n → HomeDomains m hs bs → MarkedDown bs d
+    pub down_first : (bs : List Bool) (d : ℕ) → d + 1 ≡ n → MarkedHomes m hs bs → MarkedDown bs d
     unfolding tree_of
     down_first bs d e H =
         record {
           room = H.room;
           homes = λ i l.
-              let h = home_in n m ps [] hs i l in
+              let h = home_of w i l in
               let r = real.real i l in
               rw (ancestor_home, h) (H.home (get_or hs i 0) (omega arith) ∙ any_found m (λ j. eqb (get_or hs j 0) (get_or hs i 0)) i l (same_test (get_or hs i 0)));
           parents = λ i k l g. let r = path_real i k l in absurd (omega arith);
@@ -78,7 +90,7 @@ module _ (n m : ℕ) (ps hs : List ℕ) where
                 thread = there.index;
                 index = 0;
                 real = there.below;
-                there = ancestor_home t there.index ∙ home_in n m ps [] hs there.index there.below ∙ eqb-true _ _ there.holds;
+                there = ancestor_home t there.index ∙ home_of w there.index there.below ∙ eqb-true _ _ there.holds;
               };
         }
       where
@@ -151,12 +163,6 @@ module _ (n m : ℕ) (ps hs : List ℕ) where
 
 -- THE TABLE AND THE TEST
 module _ (w : TreeWords) (valid : Accepted (tree_of w)) where
-  -- paths read neither thresholds nor the kind of root
-  ancestor_same : (i k : ℕ) → ancestor (tree_in w.domains w.threads w.parents [] w.homes) i k ≡ ancestor (tree_of w) i k
-  unfolding ancestor above tree_of
-  ancestor_same i zero = refl
-  ancestor_same i (suc k) = rw (ancestor_same i k)
-
   on_path_up : (i k : ℕ) → i < w.threads → on_path (tree_of w) i (ancestor (tree_of w) i k) ≡ true
   unfolding tree_of
   on_path_up i zero l = rw ancestor_home (on_path_home (tree_of w) valid i l)
@@ -168,7 +174,7 @@ module _ (w : TreeWords) (valid : Accepted (tree_of w)) where
       ]
 
   pub occupied_is :
-      (bs : List Bool) → Occupied (tree_in w.domains w.threads w.parents [] w.homes) bs → (d : ℕ) → d < w.domains →
+      (bs : List Bool) → Occupied (tree_of w) bs → (d : ℕ) → d < w.domains →
       not (get_or bs d false) ≡ empty_domain (tree_of w) d
   unfolding tree_of
   occupied_is bs owned d l = by (get_or bs d false) refl
@@ -176,17 +182,17 @@ module _ (w : TreeWords) (valid : Accepted (tree_of w)) where
       by : (b : Bool) → get_or bs d false ≡ b → not b ≡ empty_domain (tree_of w) d
       by true e =
           let o = owned.only d l e in
-          let there = sym (ancestor_same o.thread o.index) ∙ o.there in
+          let there = o.there in
           let up = ap (λ x. on_path (tree_of w) o.thread x) (sym there) ∙ on_path_up o.thread o.index o.real in
           sym (one_there (tree_of w) d (record { thread = o.thread; real = o.real; below = under_domain (tree_of w) d o.thread ∙ up }))
       by false e =
           sym (none_there (tree_of w) d (λ h.
           let o = path_index (tree_of w) valid h.thread h.real d (sym (under_domain (tree_of w) d h.thread) ∙ h.below) in
-          true≢false (sym (owned.marked h.thread o.index h.real) ∙ ap (λ x. get_or bs x false) (ancestor_same h.thread o.index ∙ o.there) ∙ e)))
+          true≢false (sym (owned.marked h.thread o.index h.real) ∙ ap (λ x. get_or bs x false) o.there ∙ e)))
 
   -- the lowest domain that is not marked is the lowest empty one
   pub occupied_lowest :
-      (bs : List Bool) → Occupied (tree_in w.domains w.threads w.parents [] w.homes) bs → (p : ℕ) →
+      (bs : List Bool) → Occupied (tree_of w) bs → (p : ℕ) →
       Lowest w.domains (λ d. not (get_or bs d false)) p → Lowest w.domains (empty_domain (tree_of w)) p
   occupied_lowest bs owned p L =
       let n = L.within in
@@ -229,8 +235,8 @@ pub leaves_pass :
     tree_refusal (tree_of w) ≡ accepted
 unfolding tree_of is_leaf is_child
 leaves_pass w passed r H z =
-    let homes = none_bad w.threads (bad_home (tree_in w.domains w.threads w.parents [] w.homes))
-    (λ i l. leaf_test w.domains w.threads w.parents w.homes i l (H.leaf z i l)) in
+    let homes = none_bad w.threads (bad_home (tree_of w))
+    (λ i l. leaf_test w i l (H.leaf z i l)) in
     let valid = facts w passed w.threads homes (omega arith) in
     let leaves : (d : ℕ) → d < w.domains → is_leaf (tree_of w) d ≡ true → is_home_in w.threads w.homes d ≡ true = λ d l e. H.home z d l (rw (lt-leb w.domains d l, e)) in
     tree_passes w passed w.threads homes (omega arith) w.domains (none_empty w valid leaves) (omega arith)

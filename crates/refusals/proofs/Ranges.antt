@@ -1,13 +1,17 @@
--- Tests of all numbers of a range.
-use mathlib.Core.Path.{◌≡◌, refl, ap, fun_ext, ◌∙◌}
-use mathlib.Core.Bool.{Bool, true, false, ◌&&◌}
-use Prim.Native.Nat.{ℕ, zero, suc, ◌+◌, ◌≤◌, ◌<◌}
+-- Tests of all numbers of a range, and the lowest number that fails one.
+use mathlib.Core.Path.{◌≡◌, refl, sym, ap, fun_ext, ◌∙◌}
+use mathlib.Core.Bool.{Bool, true, false, ◌&&◌, cond}
+use Prim.Native.Nat.{ℕ, zero, suc, ◌+◌, ◌-◌, ◌≤◌, ◌<◌}
 use native.Mathlib.Omega.{arith}
-use Rattle.std.specs.List.{list_all, range_with_len}
+use Rattle.std.proofs.Common.{Option, None, Some}
+use Rattle.std.specs.Option.{option_map}
+use Rattle.std.specs.List.{list_all, find, range_with_len}
 use Rattle.model.specs.Scans.{all_below}
+use Rattle.refusals.specs.Lowest.{Lowest, FindsLowest}
+use Rattle.refusals.proofs.Scanning.{one_more}
 
 -- the first number apart
-all_split : (n : ℕ) (f : ℕ → Bool) → all_below (suc n) f ≡ (f 0 && all_below n (λ k. f (suc k)))
+pub all_split : (n : ℕ) (f : ℕ → Bool) → all_below (suc n) f ≡ (f 0 && all_below n (λ k. f (suc k)))
 unfolding all_below
 all_split zero f = by (f 0)
   where
@@ -32,3 +36,31 @@ pub all_in_range : (n : ℕ) (f : ℕ → Bool) → list_all f (range_with_len 0
 all_in_range n f =
     let whole : (k : ℕ) → 0 + k ≡ k = λ k. omega arith in
     all_from 0 n f ∙ ap (all_below n) (fun_ext (λ k. ap f (whole k)))
+
+-- a search of a range from a on, below which no place is bad
+find_lowest :
+    (test bad : ℕ → Bool) (a k n : ℕ) → a + k ≡ n → ((j : ℕ) → j < a → bad j ≡ false) → ((j : ℕ) → a ≤ j → j < n → test j ≡ bad j) →
+    FindsLowest n bad (find test (range_with_len a k))
+find_lowest test bad a zero n e below same =
+    (record { within = omega arith; passed = λ j l. below j (omega arith); fails = λ l. absurd (omega arith) }, tt)
+find_lowest test bad a (suc k) n e below same =
+    by (test a) refl (λ here. find_lowest test bad (a + 1) k n (omega arith) (one_more bad false a below here) (λ j h l. same j (omega arith) l))
+  where
+    by : (b : Bool) → test a ≡ b → (bad a ≡ false → FindsLowest n bad (find test (range_with_len (a + 1) k))) → FindsLowest n bad (cond b (Some a) (find test (range_with_len (a + 1) k)))
+    by true f rest = (record { within = omega arith; passed = below; fails = λ l. sym (same a (omega arith) l) ∙ f }, omega arith)
+    by false f rest = rest (sym (same a (omega arith) (omega arith)) ∙ f)
+
+-- the same for the result of `find`
+pub found_lowest :
+    (test bad : ℕ → Bool) (a n : ℕ) (found : Option ℕ) → option_map (λ x. x) found ≡ find test (range_with_len a (n - a)) → a ≤ n →
+    ((j : ℕ) → j < a → bad j ≡ false) → ((j : ℕ) → a ≤ j → j < n → test j ≡ bad j) → FindsLowest n bad found
+found_lowest test bad a n found e l below same =
+    rw (← (sym (itself found) ∙ e)) at (find_lowest test bad a (n - a) n (omega arith) below same)
+  where
+    itself : (x : Option ℕ) → option_map (λ (y : ℕ). y) x ≡ x
+    itself None = refl
+    itself (Some y) = refl
+
+-- a scan that finds nothing
+pub none_found : (n : ℕ) (bad : ℕ → Bool) (found : Option ℕ) → found ≡ None → FindsLowest n bad found → Lowest n bad n
+none_found n bad found e L = let l = rw e at L in l.0

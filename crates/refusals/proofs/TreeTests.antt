@@ -1,14 +1,14 @@
 -- The tests of a tree in order: what the scans answer is the tree's refusal.
-use mathlib.Core.Path.{◌≡◌, refl, sym, ap, fun_ext, ◌∙◌}
-use mathlib.Core.Bool.{Bool, true, false}
-use mathlib.Core.List.{List, [], ◌++◌}
-use Prim.Native.Nat.{ℕ, zero, suc, ◌≤◌, ◌<◌}
+use mathlib.Core.Path.{◌≡◌, refl, ap, ◌∙◌}
+use mathlib.Core.Bool.{true, false}
+use mathlib.Core.List.{[], ◌++◌}
+use Prim.Native.Nat.{ℕ, ◌≤◌, ◌<◌}
 use native.Mathlib.Omega.{arith}
 use lib.Dec.{eqb, ltb}
 use lib.ListN.{drop}
-use borrow.Author.Tests.{eq-eqb, ne_eqb, lt-ltb, le-ltb, eqb-false, ltb-false, leb-false}
+use borrow.Author.Tests.{eqb-false, ltb-false, leb-false}
 use Rattle.model.specs.declared.TreeWords.{TreeWords}
-use Rattle.model.specs.Trees.{Tree, tree_of, depth_from, depth, level, is_child, is_leaf}
+use Rattle.model.specs.Trees.{Tree, tree_of}
 use Rattle.model.specs.Refusals.{refusal, accepted, first_refusal, count_tests, domain_tests, home_tests, empty_tests, tree_tests, has_number, tree_refusal, bad_domains, bad_threads, bad_parent, too_deep, no_threshold, bad_home, empty_domain}
 use Rattle.model.proofs.Tests.{or_neither}
 use Rattle.model.proofs.Refusing.{tests_pass, numbered}
@@ -16,9 +16,9 @@ use Rattle.model.proofs.Trees.Accepted.{Accepted, but_zero, accepted_before}
 use Rattle.model.proofs.Laws.Refusals.{accepted_number}
 use Rattle.refusals.specs.declared.reasons.Refusal.{Refusal}
 use Rattle.refusals.specs.Reasons.{number_of}
-use Rattle.refusals.specs.Arrays.{tree_in, parents_in, Lower, shape_tests}
+use Rattle.refusals.specs.Arrays.{Lower, shape_tests}
 use Rattle.refusals.specs.Lowest.{Lowest}
-use Rattle.refusals.proofs.Reading.{parent_in}
+use Rattle.refusals.proofs.Reading.{parent_of}
 use Rattle.refusals.proofs.Scanning.{single_hit, single_missed, test_hit, test_missed}
 use Rattle.refusals.proofs.Joining.{other_decides}
 use Rattle.refusals.proofs.Refusing.{ok_numbered, refused_early, passed_early}
@@ -30,49 +30,14 @@ pub record Shape (w : TreeWords) : Type 0 where
   pub few_threads : w.threads ≤ 256
   pub low : Lower w.domains w.parents
 
-lowest_same : (n : ℕ) (f g : ℕ → Bool) (p : ℕ) → ((j : ℕ) → f j ≡ g j) → Lowest n f p → Lowest n g p
-lowest_same n f g p h L =
-    record { within = L.within; passed = λ j l. sym (h j) ∙ L.passed j l; fails = λ l. sym (h p) ∙ L.fails l }
-
-depth_same : (k : ℕ) (t u : Tree) (d : ℕ) → ((e : ℕ) → t.parent e ≡ u.parent e) → depth_from k t d ≡ depth_from k u d
-unfolding depth_from
-depth_same zero t u d h = refl
-depth_same (suc k) t u d h = rw (h d, depth_same k t u (u.parent d) h)
-
-pub lower_by : (n : ℕ) (ps : List ℕ) (p : ℕ) → Lowest n (bad_parent (parents_in n ps)) p → n ≤ p → Lower n ps
+pub lower_by : (w : TreeWords) (p : ℕ) → Lowest w.domains (bad_parent (tree_of w)) p → w.domains ≤ p → Lower w.domains w.parents
 unfolding bad_parent
-lower_by n ps p L h =
-    record {
-      lower = λ d a b.
-          rw (parent_in n 0 ps [] [] d a b) at (leb-false d ((parents_in n ps).parent d) (but_zero d _ (L.passed d (omega arith)) a));
-    }
+lower_by w p L h =
+    record { lower = λ d a b. rw (parent_of w d a b) at (leb-false d ((tree_of w).parent d) (but_zero d _ (L.passed d (omega arith)) a)) }
 
 module _ (w : TreeWords) where
   abbrev t : Tree
   t = tree_of w
-
-  -- the answer of each scan, for the whole tree
-  parents_of : (p : ℕ) → Lowest w.domains (bad_parent (parents_in w.domains w.parents)) p → Lowest t.domains (bad_parent t) p
-  unfolding bad_parent tree_of
-  parents_of p L = lowest_same w.domains (bad_parent (parents_in w.domains w.parents)) (bad_parent t) p (λ j. refl) L
-
-  -- levels read only the parents
-  levels_alone : (m : ℕ) (ts hs : List ℕ) → too_deep (tree_in w.domains m w.parents ts hs) ≡ too_deep t
-  unfolding too_deep level depth tree_of
-  levels_alone m ts hs = fun_ext (λ d. rw (depth_same w.domains (tree_in w.domains m w.parents ts hs) t d (λ e. refl)))
-
-  levels_of : (p : ℕ) → Lowest w.domains (too_deep (parents_in w.domains w.parents)) p → Lowest t.domains (too_deep t) p
-  unfolding tree_of
-  levels_of p L = rw (← levels_alone 0 [] []) L
-
-  thresholds_of : (p : ℕ) → Lowest w.domains (no_threshold (tree_in w.domains 0 [] w.thresholds [])) p → Lowest t.domains (no_threshold t) p
-  unfolding no_threshold tree_of
-  thresholds_of p L = lowest_same w.domains (no_threshold (tree_in w.domains 0 [] w.thresholds [])) (no_threshold t) p (λ j. refl) L
-
-  homes_of : (p : ℕ) → Lowest w.threads (bad_home (tree_in w.domains w.threads w.parents [] w.homes)) p → Lowest t.threads (bad_home t) p
-  unfolding bad_home is_leaf is_child tree_of
-  homes_of p L =
-      lowest_same w.threads (bad_home (tree_in w.domains w.threads w.parents [] w.homes)) (bad_home t) p (λ j. refl) L
 
   -- 4 and 5
   pub domains_refused : bad_domains t 0 ≡ true → first_refusal (count_tests t) ≡ refusal 4 0
@@ -87,37 +52,32 @@ module _ (w : TreeWords) where
     counts_pass f = single_missed _ (drop 1 (count_tests t)) refl e ∙ single_missed _ [] refl f
 
   -- 6 to 8
-  module _ (p₆ : ℕ) (L₆ : Lowest w.domains (bad_parent (parents_in w.domains w.parents)) p₆) where
+  module _ (p₆ : ℕ) (L₆ : Lowest w.domains (bad_parent t) p₆) where
     pub parent_refused : p₆ < w.domains → first_refusal (domain_tests t) ≡ refusal 6 p₆
     unfolding tree_of
-    parent_refused h = test_hit _ _ p₆ (parents_of p₆ L₆) h
+    parent_refused h = test_hit _ _ p₆ L₆ h
 
     after_six : w.domains ≤ p₆ → first_refusal (domain_tests t) ≡ first_refusal (drop 1 (domain_tests t))
     unfolding tree_of
-    after_six h = test_missed _ _ p₆ (parents_of p₆ L₆) h
+    after_six h = test_missed _ _ p₆ L₆ h
 
-    module _ (h₆ : w.domains ≤ p₆) (p₇ : ℕ) (L₇ : Lowest w.domains (too_deep (parents_in w.domains w.parents)) p₇) where
+    module _ (h₆ : w.domains ≤ p₆) (p₇ : ℕ) (L₇ : Lowest w.domains (too_deep t) p₇) where
       pub level_refused : p₇ < w.domains → first_refusal (domain_tests t) ≡ refusal 7 p₇
       unfolding tree_of
-      level_refused h = after_six h₆ ∙ test_hit _ _ p₇ (levels_of p₇ L₇) h
+      level_refused h = after_six h₆ ∙ test_hit _ _ p₇ L₇ h
 
       after_seven : w.domains ≤ p₇ → first_refusal (domain_tests t) ≡ first_refusal (drop 2 (domain_tests t))
       unfolding tree_of
-      after_seven h = after_six h₆ ∙ test_missed _ _ p₇ (levels_of p₇ L₇) h
+      after_seven h = after_six h₆ ∙ test_missed _ _ p₇ L₇ h
 
-      module _ (h₇ : w.domains ≤ p₇) (p₈ : ℕ) (L₈ : Lowest w.domains (no_threshold (tree_in w.domains 0 [] w.thresholds [])) p₈) where
+      module _ (h₇ : w.domains ≤ p₇) (p₈ : ℕ) (L₈ : Lowest w.domains (no_threshold t) p₈) where
         pub threshold_refused : p₈ < w.domains → first_refusal (domain_tests t) ≡ refusal 8 p₈
         unfolding tree_of
-        threshold_refused h = after_seven h₇ ∙ test_hit _ _ p₈ (thresholds_of p₈ L₈) h
+        threshold_refused h = after_seven h₇ ∙ test_hit _ _ p₈ L₈ h
 
         pub domains_pass : w.domains ≤ p₈ → first_refusal (domain_tests t) ≡ accepted
         unfolding tree_of first_refusal
-        domains_pass h = after_seven h₇ ∙ test_missed _ [] p₈ (thresholds_of p₈ L₈) h
-
-  -- 6 to 8 read neither threads nor homes
-  pub domains_alone : first_refusal (domain_tests (tree_in w.domains 0 w.parents w.thresholds [])) ≡ first_refusal (domain_tests t)
-  unfolding bad_parent no_threshold tree_of
-  domains_alone = rw (levels_alone 0 w.thresholds [])
+        domains_pass h = after_seven h₇ ∙ test_missed _ [] p₈ L₈ h
 
   -- 4 and 5 refuse nothing
   pub few_domains : accepted ≡ first_refusal (count_tests t) → (0 < w.domains) × (w.domains ≤ 64)
@@ -153,17 +113,17 @@ module _ (w : TreeWords) where
           some_domain = omega arith;
           few_domains = ltb-false 64 w.domains d₄.1;
           few_threads = ltb-false 256 w.threads d₅.1;
-          low = lower_by w.domains w.parents w.domains (record { within = omega arith; passed = c₆.0; fails = λ l. absurd (omega arith) }) (omega arith);
+          low = lower_by w w.domains (record { within = omega arith; passed = c₆.0; fails = λ l. absurd (omega arith) }) (omega arith);
         }
 
     after_eight : tree_refusal t ≡ first_refusal (home_tests t ++ empty_tests t)
     unfolding tree_refusal tree_tests has_number
     after_eight = other_decides (shape_tests t) (home_tests t ++ empty_tests t) (numbered (shape_tests t) refl) passed
 
-    module _ (p₉ : ℕ) (L₉ : Lowest w.threads (bad_home (tree_in w.domains w.threads w.parents [] w.homes)) p₉) where
+    module _ (p₉ : ℕ) (L₉ : Lowest w.threads (bad_home t) p₉) where
       pub home_refused : p₉ < w.threads → tree_refusal t ≡ refusal 9 p₉
       unfolding tree_of
-      home_refused h = after_eight ∙ test_hit _ _ p₉ (homes_of p₉ L₉) h
+      home_refused h = after_eight ∙ test_hit _ _ p₉ L₉ h
 
       module _ (h₉ : w.threads ≤ p₉) where
         pub facts : Accepted t
@@ -171,12 +131,12 @@ module _ (w : TreeWords) where
         facts =
             accepted_before t
             (ap (λ q. q.number)
-            (other_decides (shape_tests t) (home_tests t) (numbered (shape_tests t) refl) passed ∙ test_missed _ [] p₉ (homes_of p₉ L₉) h₉)
+            (other_decides (shape_tests t) (home_tests t) (numbered (shape_tests t) refl) passed ∙ test_missed _ [] p₉ L₉ h₉)
             ∙ accepted_number)
 
         after_nine : tree_refusal t ≡ first_refusal (empty_tests t)
         unfolding tree_of
-        after_nine = after_eight ∙ test_missed _ (empty_tests t) p₉ (homes_of p₉ L₉) h₉
+        after_nine = after_eight ∙ test_missed _ (empty_tests t) p₉ L₉ h₉
 
         module _ (p₁₆ : ℕ) (L₁₆ : Lowest w.domains (empty_domain t) p₁₆) where
           pub empty_refused : p₁₆ < w.domains → tree_refusal t ≡ refusal 16 p₁₆

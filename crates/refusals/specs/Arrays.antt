@@ -1,5 +1,5 @@
 -- A tree, given by the arrays that a test reads, and what earlier tests have shown about them.
-use Rattle.std.specs.Prelude.{◌≡◌, Bool, true, false, ◌||◌, not, cond, List, [], ◌++◌, ℕ, ◌<◌, eqb, leb, get_or, length}
+use Rattle.std.specs.Prelude.{◌≡◌, Bool, true, false, ◌||◌, not, List, [], ◌++◌, ℕ, ◌<◌, eqb, leb, get_or, length}
 use Rattle.model.specs.declared.LockState.{LockState}
 use Rattle.model.specs.declared.PlaceArrays.{PlaceArrays}
 use Rattle.model.specs.declared.State.{State}
@@ -37,14 +37,9 @@ pub record Lower (domains : ℕ) (parents : List ℕ) : Type 0 where
 abbrev pub shape_tests : Tree → List Test
 shape_tests t = count_tests t ++ domain_tests t
 
--- the answer is true only if every domain passes its tests
-pub record DomainsPass (domains : ℕ) (parents thresholds : List ℕ) (answer : Bool) : Type 0 where
-  pub sound : answer ≡ true → first_refusal (domain_tests (tree_in domains 0 parents thresholds [])) ≡ accepted
-
--- for each byte, whether it is not a domain of the tree
-pub record NoDomains (domains : ℕ) (table : List Bool) : Type 0 where
-  pub room : length table ≡ 256
-  pub no_domain : (x : ℕ) → x < 256 → get_or table x false ≡ leb domains x
+-- the answer is true only if every domain of the tree passes its tests
+pub record DomainsPass (t : Tree) (answer : Bool) : Type 0 where
+  pub sound : answer ≡ true → first_refusal (domain_tests t) ≡ accepted
 
 -- the byte is not a valid home: it is not a domain of the tree, or has child domains
 abbrev pub no_home_in : (domains : ℕ) → (parents : List ℕ) → ℕ → Bool
@@ -61,16 +56,8 @@ is_home_in m hs x = any_below m (λ i. eqb (get_or hs i 0) x)
 -- for each byte, whether it is the home of some thread
 pub record MarkedHomes (threads : ℕ) (homes : List ℕ) (table : List Bool) : Type 0 where
   pub byte : (i : ℕ) → i < threads → get_or homes i 0 < 256
+  pub room : length table ≡ 256
   pub home : (x : ℕ) → x < 256 → get_or table x false ≡ is_home_in threads homes x
-
--- the same for each of 64 domains
-pub record HomeDomains (threads : ℕ) (homes : List ℕ) (table : List Bool) : Type 0 where
-  pub room : length table ≡ 64
-  pub home : (x : ℕ) → x < 64 → get_or table x false ≡ is_home_in threads homes x
-
--- exactly one of two Booleans is true
-abbrev pub differ : Bool → Bool → Bool
-differ a b = cond a (not b) b
 
 -- the answer is true only if the homes are exactly the leaves of the tree
 pub record HomesAreLeaves (domains threads : ℕ) (parents homes : List ℕ) (answer : Bool) : Type 0 where

@@ -22,10 +22,10 @@ use reasons::{Reason, Refusal};
 fn counts_refusal(tree: &TreeWords) -> Result<(), Refusal>
     ensures { refusal_of result ≡ first_refusal (count_tests (tree_of tree.now)) }
 {
-    if tree.domains == 0 || 64 < tree.domains {
+    if !(1..=64).contains(&tree.domains) {
         return Err(Reason::BadDomains.at(0));
     }
-    if tree.threads == 0 || 256 < tree.threads {
+    if !(1..=256).contains(&tree.threads) {
         return Err(Reason::BadThreads.at(0));
     }
     Ok(())
@@ -36,19 +36,16 @@ fn domains_refusal(tree: &TreeWords) -> Result<(), Refusal>
     requires { (0 < tree.now.domains) × (tree.now.domains ≤ 64) }
     ensures { refusal_of result ≡ first_refusal (domain_tests (tree_of tree.now)) }
 {
-    if trees::domains_pass(&tree.parents, &tree.thresholds, tree.domains) {
+    if trees::domains_pass(tree) {
         return Ok(());
     }
-    let d = trees::lowest_bad_parent(&tree.parents, tree.domains);
-    if d < tree.domains {
+    if let Some(d) = trees::lowest_bad_parent(tree) {
         return Err(Reason::BadParent.at(d));
     }
-    let d = trees::lowest_too_deep(&tree.parents, tree.domains);
-    if d < tree.domains {
+    if let Some(d) = trees::lowest_too_deep(tree) {
         return Err(Reason::TooDeep.at(d));
     }
-    let d = trees::lowest_no_threshold(&tree.thresholds, tree.domains);
-    if d < tree.domains {
+    if let Some(d) = trees::lowest_no_threshold(tree) {
         return Err(Reason::NoThreshold.at(d));
     }
     Ok(())
@@ -67,15 +64,12 @@ fn homes_refusal(tree: &TreeWords) -> Result<(), Refusal>
     requires { (first_refusal (shape_tests (tree_of tree.now))).number ≡ 0 }
     ensures { refusal_of result ≡ tree_refusal (tree_of tree.now) }
 {
-    let mut bad = [false; 256];
-    trees::mark_unfit_homes(&mut bad, &tree.parents, tree.domains);
-    let i = trees::lowest_bad_home(&tree.parents, &bad, &tree.homes, tree.domains, tree.threads);
-    if i < tree.threads {
+    let unfit = trees::unfit_homes(tree);
+    if let Some(i) = trees::lowest_bad_home(tree, &unfit) {
         return Err(Reason::BadHome.at(i));
     }
-    let occupied = trees::occupied(&tree.parents, &tree.homes, tree.domains, tree.threads);
-    let d = trees::lowest_empty(&occupied, tree.domains);
-    if d < tree.domains {
+    let occupied = trees::occupied(tree);
+    if let Some(d) = trees::lowest_empty(&occupied, tree.domains) {
         return Err(Reason::EmptyDomain.at(d));
     }
     Ok(())
@@ -86,7 +80,7 @@ pub fn tree_refusal_of(tree: &TreeWords) -> Result<(), Refusal>
     ensures { refusal_of result ≡ tree_refusal (tree_of tree.now) }
 {
     shape_refusal(tree)?;
-    if trees::homes_are_leaves(&tree.parents, &tree.homes, tree.domains, tree.threads) {
+    if trees::homes_are_leaves(tree) {
         return Ok(());
     }
     homes_refusal(tree)

@@ -1,279 +1,148 @@
 // The tests of a tree, each giving the lowest place that fails it; quick tests of all domains and of all homes, and the tables that they need.
-ghost use Rattle.std.specs.Prelude.{◌≡◌, false, ◌&&◌, not, [], get_or, ◌<◌, ◌≤◌};
+ghost use Rattle.std.specs.Prelude.{◌≡◌, false, not, get_or, ◌<◌, ◌≤◌};
+ghost use Rattle.model.specs.Trees.{tree_of};
 ghost use Rattle.model.specs.Refusals.{bad_parent, too_deep, no_threshold, bad_home};
-ghost use Rattle.refusals.specs.Arrays.{tree_in, parents_in, Lower, DomainsPass, NoDomains, UnfitHomes, MarkedHomes, RealHomes, HomeDomains, Occupied, HomesAreLeaves, differ};
-ghost use Rattle.refusals.specs.Lowest.{Lowest};
+ghost use Rattle.refusals.specs.Arrays.{Lower, DomainsPass, UnfitHomes, MarkedHomes, RealHomes, Occupied, HomesAreLeaves};
+ghost use Rattle.refusals.specs.Lowest.{FindsLowest};
 
-fn bad_parent_at(parents: &[u8; 64], domains: u32, d: u32) -> bool
-    requires domains_bound { domains ≤ 64 }
-    requires d_lt_domains { d < domains }
-    ensures { result ≡ bad_parent (parents_in domains parents.now) d }
-{
-    if d == 0 {
-        return false;
-    }
-    let at = d as usize;
-    let p = parents[at];
-    d <= casts::byte_number(p)
-}
+use model::TreeWords;
 
-pub(crate) fn lowest_bad_parent(parents: &[u8; 64], domains: u32) -> u32
-    requires { domains ≤ 64 }
-    ensures { Lowest domains (bad_parent (parents_in domains parents.now)) result }
+pub(crate) fn lowest_bad_parent(tree: &TreeWords) -> Option<u32>
+    requires { (0 < tree.now.domains) × (tree.now.domains ≤ 64) }
+    ensures { FindsLowest tree.now.domains (bad_parent (tree_of tree.now)) result }
 {
-    let mut d: u32 = 0;
-    while d < domains {
-        if bad_parent_at(parents, domains, d) {
-            return d;
-        }
-        d += 1;
-    }
-    d
+    (1..tree.domains).find(|d| *d <= u32::from(tree.parents[*d as usize]))
 }
 
 // The level of a domain is one more than that of its parent, whose number is lower.
-pub(crate) fn lowest_too_deep(parents: &[u8; 64], domains: u32) -> u32
-    requires domains_nonzero { (0 < domains) × (domains ≤ 64) }
-    requires lower { Lower domains parents.now }
-    ensures { Lowest domains (too_deep (parents_in domains parents.now)) result }
+pub(crate) fn lowest_too_deep(tree: &TreeWords) -> Option<u32>
+    requires domains_nonzero { (0 < tree.now.domains) × (tree.now.domains ≤ 64) }
+    requires lower { Lower tree.now.domains tree.now.parents }
+    ensures { FindsLowest tree.now.domains (too_deep (tree_of tree.now)) result }
 {
     let mut levels = [1u8; 64];
-    let mut d: u32 = 1;
-    while d < domains {
+    for d in 1..tree.domains {
         let at = d as usize;
-        let p = parents[at] as usize;
-        let level = levels[p] + 1;
+        let level = levels[usize::from(tree.parents[at])] + 1;
         if 6 < level {
-            return d;
+            return Some(d);
         }
         levels[at] = level;
-        d += 1;
     }
-    d
+    None
 }
 
-fn no_threshold_at(thresholds: &[u16; 64], domains: u32, d: u32) -> bool
-    requires domains_bound { domains ≤ 64 }
-    requires d_lt_domains { d < domains }
-    ensures { result ≡ no_threshold (tree_in domains 0 [] thresholds.now []) d }
+pub(crate) fn lowest_no_threshold(tree: &TreeWords) -> Option<u32>
+    requires { (0 < tree.now.domains) × (tree.now.domains ≤ 64) }
+    ensures { FindsLowest tree.now.domains (no_threshold (tree_of tree.now)) result }
 {
-    if d == 0 {
-        return false;
-    }
-    let at = d as usize;
-    let h = casts::of_16_bits(thresholds[at]);
-    h == 0
-}
-
-pub(crate) fn lowest_no_threshold(thresholds: &[u16; 64], domains: u32) -> u32
-    requires { domains ≤ 64 }
-    ensures { Lowest domains (no_threshold (tree_in domains 0 [] thresholds.now [])) result }
-{
-    let mut d: u32 = 0;
-    while d < domains {
-        if no_threshold_at(thresholds, domains, d) {
-            return d;
+    for d in 1..tree.domains {
+        if tree.thresholds[d as usize] == 0 {
+            return Some(d);
         }
-        d += 1;
     }
-    d
+    None
 }
 
 // True only if no domain fails 6, 7 or 8, in one pass; otherwise the scans find which one does.
-pub(crate) fn domains_pass<'a>(
-    parents: &'a [u8; 64],
-    thresholds: &'a [u16; 64],
-    domains: u32,
-) -> bool
-    requires { (0 < domains) × (domains ≤ 64) }
-    ensures { DomainsPass domains parents.now thresholds.now result }
+pub(crate) fn domains_pass(tree: &TreeWords) -> bool
+    requires { (0 < tree.now.domains) × (tree.now.domains ≤ 64) }
+    ensures { DomainsPass (tree_of tree.now) result }
 {
     let mut levels = [1u8; 64];
-    let mut d: u32 = 1;
-    while d < domains {
+    for d in 1..tree.domains {
         let at = d as usize;
-        let q = parents[at];
-        if d <= casts::byte_number(q) {
+        let parent = tree.parents[at];
+        if d <= u32::from(parent) {
             return false;
         }
-        let p = q as usize;
-        let level = levels[p] + 1;
+        let level = levels[usize::from(parent)] + 1;
         if 6 < level {
             return false;
         }
-        let h = casts::of_16_bits(thresholds[at]);
-        if h == 0 {
+        if tree.thresholds[at] == 0 {
             return false;
         }
         levels[at] = level;
-        d += 1;
     }
     true
 }
 
-// For each byte, whether it is not a domain of the tree.
-fn no_domains(outside: &mut [bool; 256], domains: u32)
-    requires { domains ≤ 64 }
-    ensures { NoDomains domains outside.new }
-{
-    *outside = [true; 256];
-    let mut d: u32 = 0;
-    while d < domains {
-        let at = d as usize;
-        outside[at] = false;
-        d += 1;
-    }
-}
-
 // For each byte, whether it is not a valid home: it is not a domain of the tree, or has child domains.
-pub(crate) fn mark_unfit_homes(bad: &mut [bool; 256], parents: &[u8; 64], domains: u32)
-    requires { (0 < domains) × (domains ≤ 64) }
-    ensures { UnfitHomes domains parents.now bad.new }
+pub(crate) fn unfit_homes(tree: &TreeWords) -> [bool; 256]
+    requires { (0 < tree.now.domains) × (tree.now.domains ≤ 64) }
+    ensures { UnfitHomes tree.now.domains tree.now.parents result }
 {
-    no_domains(bad, domains);
-    let mut d: u32 = 1;
-    while d < domains {
-        let at = d as usize;
-        let p = casts::byte_index(parents[at]);
-        bad[p] = true;
-        d += 1;
+    let mut unfit = [true; 256];
+    unfit[..tree.domains as usize].fill(false);
+    for d in 1..tree.domains {
+        let p = usize::from(tree.parents[d as usize]);
+        unfit[p] = true;
     }
+    unfit
 }
 
-pub(crate) fn lowest_bad_home<'a>(
-    parents: &'a [u8; 64],
-    bad: &'a [bool; 256],
-    homes: &'a [u8; 256],
-    domains: u32,
-    threads: u32,
-) -> u32
-    requires domains_bound { (domains ≤ 64) × (threads ≤ 256) }
-    requires unfit_homes { UnfitHomes domains parents.now bad.now }
-    ensures { Lowest threads (bad_home (tree_in domains threads parents.now [] homes.now)) result }
+pub(crate) fn lowest_bad_home(tree: &TreeWords, unfit: &[bool; 256]) -> Option<u32>
+    requires domains_bound { (tree.now.domains ≤ 64) × (tree.now.threads ≤ 256) }
+    requires unfit_homes { UnfitHomes tree.now.domains tree.now.parents unfit.now }
+    ensures { FindsLowest tree.now.threads (bad_home (tree_of tree.now)) result }
 {
-    let mut i: u32 = 0;
-    while i < threads {
-        let at = i as usize;
-        let h = casts::byte_index(homes[at]);
-        if bad[h] {
-            return i;
+    for i in 0..tree.threads {
+        let h = usize::from(tree.homes[i as usize]);
+        if unfit[h] {
+            return Some(i);
         }
-        i += 1;
     }
-    i
+    None
 }
 
 // For each byte, whether it is the home of some thread.
-fn marked_homes(marked: &mut [bool; 256], homes: &[u8; 256], threads: u32)
-    requires { threads ≤ 256 }
-    ensures { MarkedHomes threads homes.now marked.new }
-{
-    *marked = [false; 256];
-    let mut i: u32 = 0;
-    while i < threads {
-        let at = i as usize;
-        let h = casts::byte_index(homes[at]);
-        marked[h] = true;
-        i += 1;
-    }
-}
-
-fn differs(a: bool, b: bool) -> bool
-    ensures { result ≡ differ a b }
-{
-    if a {
-        return !b;
-    }
-    b
-}
-
-fn both(a: bool, b: bool) -> bool
-    ensures { result ≡ a && b }
-{
-    if a {
-        return b;
-    }
-    false
-}
-
-// True only if each byte is a home exactly if it is a leaf of the tree: then no home fails 9 and no domain fails 16. The loop has no early exit, so that the compiler can compare many bytes at once.
-pub(crate) fn homes_are_leaves<'a>(
-    parents: &'a [u8; 64],
-    homes: &'a [u8; 256],
-    domains: u32,
-    threads: u32,
-) -> bool
-    requires { (0 < domains) × (domains ≤ 64) × (threads ≤ 256) }
-    ensures { HomesAreLeaves domains threads parents.now homes.now result }
+fn marked_homes(tree: &TreeWords) -> [bool; 256]
+    requires { tree.now.threads ≤ 256 }
+    ensures { MarkedHomes tree.now.threads tree.now.homes result }
 {
     let mut marked = [false; 256];
-    let mut bad = [false; 256];
-    marked_homes(&mut marked, homes, threads);
-    mark_unfit_homes(&mut bad, parents, domains);
-    let mut same = true;
-    let mut x: usize = 0;
-    while x < 256 {
-        let one = differs(marked[x], bad[x]);
-        same = both(same, one);
-        x += 1;
+    for i in 0..tree.threads {
+        let h = usize::from(tree.homes[i as usize]);
+        marked[h] = true;
     }
-    same
+    marked
 }
 
-// For each domain, whether it is a home.
-fn home_domains(homes: &[u8; 256], domains: u32, threads: u32) -> [bool; 64]
-    requires domains_bound { (domains ≤ 64) × (threads ≤ 256) }
-    requires real_homes { RealHomes domains threads homes.now }
-    ensures { HomeDomains threads homes.now result }
+// True only if each byte is a home exactly if it is a leaf of the tree: then no home fails 9 and no domain fails 16. The fold has no early exit, so that the compiler can compare many bytes at once.
+pub(crate) fn homes_are_leaves(tree: &TreeWords) -> bool
+    requires { (0 < tree.now.domains) × (tree.now.domains ≤ 64) × (tree.now.threads ≤ 256) }
+    ensures { HomesAreLeaves tree.now.domains tree.now.threads tree.now.parents tree.now.homes result }
 {
-    let mut occupied = [false; 64];
-    let mut i: u32 = 0;
-    while i < threads {
-        let at = i as usize;
-        let h = casts::byte_index(homes[at]);
-        occupied[h] = true;
-        i += 1;
-    }
-    occupied
+    let marked = marked_homes(tree);
+    let unfit = unfit_homes(tree);
+    marked
+        .iter()
+        .zip(&unfit)
+        .fold(true, |same, (m, u)| same & (*m != *u))
 }
 
 // For each domain, whether a thread is under it. Parents have lower numbers, so a loop from the highest domain down marks them.
-pub(crate) fn occupied<'a>(
-    parents: &'a [u8; 64],
-    homes: &'a [u8; 256],
-    domains: u32,
-    threads: u32,
-) -> [bool; 64]
-    requires domains_nonzero { (0 < domains) × (domains ≤ 64) × (threads ≤ 256) }
-    requires lower { Lower domains parents.now }
-    requires real_homes { RealHomes domains threads homes.now }
-    ensures { Occupied (tree_in domains threads parents.now [] homes.now) result }
+pub(crate) fn occupied(tree: &TreeWords) -> [bool; 256]
+    requires domains_nonzero { (0 < tree.now.domains) × (tree.now.domains ≤ 64) × (tree.now.threads ≤ 256) }
+    requires lower { Lower tree.now.domains tree.now.parents }
+    requires real_homes { RealHomes tree.now.domains tree.now.threads tree.now.homes }
+    ensures { Occupied (tree_of tree.now) result }
 {
-    let mut occupied = home_domains(homes, domains, threads);
-    let mut d = domains - 1;
-    while 0 < d {
-        let at = d as usize;
-        let p = casts::byte_index(parents[at]);
-        if occupied[at] {
+    let mut occupied = marked_homes(tree);
+    for d in (1..tree.domains as usize).rev() {
+        let p = usize::from(tree.parents[d]);
+        if occupied[d] {
             occupied[p] = true;
         }
-        d -= 1;
     }
     occupied
 }
 
 // The lowest domain that is not marked.
-pub(crate) fn lowest_empty(occupied: &[bool; 64], domains: u32) -> u32
+pub(crate) fn lowest_empty(occupied: &[bool; 256], domains: u32) -> Option<u32>
     requires { domains ≤ 64 }
-    ensures { Lowest domains (λ d. not (get_or occupied.now d false)) result }
+    ensures { FindsLowest domains (λ d. not (get_or occupied.now d false)) result }
 {
-    let mut d: u32 = 0;
-    while d < domains {
-        let at = d as usize;
-        if !occupied[at] {
-            return d;
-        }
-        d += 1;
-    }
-    d
+    (0..domains).find(|d| !occupied[*d as usize])
 }

@@ -1,22 +1,32 @@
 -- `refusals::domains_refusal` meets its contract: one pass, or the scans in order.
-use mathlib.Core.Path.{sym, ◌∙◌}
+use Rattle.std.proofs.Common.{sym, arith, rules}
+use Rattle.refusals.proofs.Ranges.{none_found}
 use Rattle.refusals.proofs.TreeTests as tests
 use Rattle.refusals.proofs.domains_refusal.Goals as goal
 
 pub returns-then-domains_pass : goal.returns-then-domains_pass
-returns-then-domains_pass c = sym (sym (tests.domains_alone c.args.tree.now) ∙ c.domains_pass.ensures.sound c.if-domains_pass.true)
+returns-then-domains_pass c = sym (c.domains_pass.ensures.sound c.if-domains_pass.true)
 
-pub returns-then-d-tree : goal.returns-then-d-tree
-returns-then-d-tree c = rw c.at.ensures (sym (tests.parent_refused c.args.tree.now _ c.lowest_bad_parent-d.ensures c.if-d-tree.true))
+pub returns-in-Some : goal.returns-in-Some
+returns-in-Some c = let d = c.in-Some.ensures in
+    rw c.at.ensures (sym (tests.parent_refused c.args.tree.now _ d.0 d.1))
 
-pub lowest_too_deep-d-requires-clause-lower : goal.lowest_too_deep-d-requires-clause-lower
-lowest_too_deep-d-requires-clause-lower c = tests.lower_by _ _ _ c.lowest_bad_parent-d.ensures c.if-d-tree.false
+pub lowest_too_deep-requires-clause-lower : goal.lowest_too_deep-requires-clause-lower
+lowest_too_deep-requires-clause-lower c = tests.lower_by c.args.tree.now _ (none_found _ _ _ (search rules) c.lowest_bad_parent.ensures) (omega arith)
 
-pub returns-then-d-tree-2 : goal.returns-then-d-tree-2
-returns-then-d-tree-2 c = rw c.at-then-d-tree-2.ensures (sym (tests.level_refused c.args.tree.now _ c.lowest_bad_parent-d.ensures c.if-d-tree.false _ c.lowest_too_deep-d.ensures c.if-d-tree-2.true))
+pub returns-in-Some-lowest_too_deep : goal.returns-in-Some-lowest_too_deep
+returns-in-Some-lowest_too_deep c = let l₆ = none_found _ _ c.lowest_bad_parent.result (search rules) c.lowest_bad_parent.ensures in
+    let d = c.in-Some-lowest_too_deep.ensures in
+    rw c.at-in-Some-lowest_too_deep.ensures (sym (tests.level_refused c.args.tree.now _ l₆ (omega arith) _ d.0 d.1))
 
-pub returns-then-d-tree-3 : goal.returns-then-d-tree-3
-returns-then-d-tree-3 c = rw c.at-then-d-tree-3.ensures (sym (tests.threshold_refused c.args.tree.now _ c.lowest_bad_parent-d.ensures c.if-d-tree.false _ c.lowest_too_deep-d.ensures c.if-d-tree-2.false _ c.lowest_no_threshold-d.ensures c.if-d-tree-3.true))
+pub returns-in-Some-lowest_no_threshold : goal.returns-in-Some-lowest_no_threshold
+returns-in-Some-lowest_no_threshold c = let l₆ = none_found _ _ c.lowest_bad_parent.result (search rules) c.lowest_bad_parent.ensures in
+    let l₇ = none_found _ _ c.lowest_too_deep.result (search rules) c.lowest_too_deep.ensures in
+    let d = c.in-Some-lowest_no_threshold.ensures in
+    rw c.at-in-Some-lowest_no_threshold.ensures (sym (tests.threshold_refused c.args.tree.now _ l₆ (omega arith) _ l₇ (omega arith) _ d.0 d.1))
 
 pub returns : goal.returns
-returns c = sym (tests.domains_pass c.args.tree.now _ c.lowest_bad_parent-d.ensures c.if-d-tree.false _ c.lowest_too_deep-d.ensures c.if-d-tree-2.false _ c.lowest_no_threshold-d.ensures c.if-d-tree-3.false)
+returns c = let l₆ = none_found _ _ c.lowest_bad_parent.result (search rules) c.lowest_bad_parent.ensures in
+    let l₇ = none_found _ _ c.lowest_too_deep.result (search rules) c.lowest_too_deep.ensures in
+    let l₈ = none_found _ _ c.lowest_no_threshold.result (search rules) c.lowest_no_threshold.ensures in
+    sym (tests.domains_pass c.args.tree.now _ l₆ (omega arith) _ l₇ (omega arith) _ l₈ (omega arith))

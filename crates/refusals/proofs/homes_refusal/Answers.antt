@@ -1,37 +1,40 @@
 -- `refusals::homes_refusal` meets its contract: the lowest bad home, then the lowest empty domain.
-use mathlib.Core.Path.{sym}
+use Rattle.std.proofs.Common.{sym, arith, rules}
+use Rattle.refusals.proofs.Ranges.{none_found}
 use Rattle.refusals.proofs.TreeTests.{shape, home_refused, facts, empty_refused, tree_passes}
 use Rattle.refusals.proofs.Occupying.{homes_real, occupied_lowest}
 use Rattle.refusals.proofs.homes_refusal.Goals as goal
 
-pub mark_unfit_homes-requires : goal.mark_unfit_homes-requires
-mark_unfit_homes-requires c = let k = shape c.args.tree.now c.requires in (k.some_domain, k.few_domains)
+pub unfit_homes-unfit-requires : goal.unfit_homes-unfit-requires
+unfit_homes-unfit-requires c = let k = shape c.args.tree.now c.requires in (k.some_domain, k.few_domains)
 
-pub lowest_bad_home-i-requires : goal.lowest_bad_home-i-requires
-lowest_bad_home-i-requires c = let k = shape c.args.tree.now c.requires in
-    record { domains_bound = (k.few_domains, k.few_threads); unfit_homes = c.mark_unfit_homes.ensures }
+pub lowest_bad_home-requires : goal.lowest_bad_home-requires
+lowest_bad_home-requires c = let k = shape c.args.tree.now c.requires in
+    record { domains_bound = (k.few_domains, k.few_threads); unfit_homes = c.unfit_homes-unfit.ensures }
 
-pub returns-then-i-tree : goal.returns-then-i-tree
-returns-then-i-tree c = rw c.at.ensures (sym (home_refused c.args.tree.now c.requires _ c.lowest_bad_home-i.ensures c.if-i-tree.true))
+pub returns-in-Some : goal.returns-in-Some
+returns-in-Some c = let i = c.in-Some.ensures in
+    rw c.at.ensures (sym (home_refused c.args.tree.now c.requires _ i.0 i.1))
 
 pub occupied-occupied-requires : goal.occupied-occupied-requires
 occupied-occupied-requires c = let w = c.args.tree.now in
     let k = shape w c.requires in
-    record { domains_nonzero = (k.some_domain, k.few_domains, k.few_threads); lower = k.low; real_homes = homes_real w (facts w c.requires _ c.lowest_bad_home-i.ensures c.if-i-tree.false) }
+    let l₉ = none_found _ _ c.lowest_bad_home.result (search rules) c.lowest_bad_home.ensures in
+    record { domains_nonzero = (k.some_domain, k.few_domains, k.few_threads); lower = k.low; real_homes = homes_real w (facts w c.requires _ l₉ (omega arith)) }
 
-pub lowest_empty-d-requires : goal.lowest_empty-d-requires
-lowest_empty-d-requires c = (shape c.args.tree.now c.requires).few_domains
+pub lowest_empty-requires : goal.lowest_empty-requires
+lowest_empty-requires c = (shape c.args.tree.now c.requires).few_domains
 
-pub returns-then-d-tree : goal.returns-then-d-tree
-returns-then-d-tree c = let w = c.args.tree.now in
-    let l₉ = c.lowest_bad_home-i.ensures in
-    let h₉ = c.if-i-tree.false in
-    let l₁₆ = occupied_lowest w (facts w c.requires _ l₉ h₉) _ c.occupied-occupied.ensures _ c.lowest_empty-d.ensures in
-    rw c.at-then-d-tree.ensures (sym (empty_refused w c.requires _ l₉ h₉ _ l₁₆ c.if-d-tree.true))
+pub returns-in-Some-lowest_empty : goal.returns-in-Some-lowest_empty
+returns-in-Some-lowest_empty c = let w = c.args.tree.now in
+    let l₉ = none_found _ _ c.lowest_bad_home.result (search rules) c.lowest_bad_home.ensures in
+    let d = c.in-Some-lowest_empty.ensures in
+    let l₁₆ = occupied_lowest w (facts w c.requires _ l₉ (omega arith)) _ c.occupied-occupied.ensures _ d.0 in
+    rw c.at-in-Some-lowest_empty.ensures (sym (empty_refused w c.requires _ l₉ (omega arith) _ l₁₆ d.1))
 
 pub returns : goal.returns
 returns c = let w = c.args.tree.now in
-    let l₉ = c.lowest_bad_home-i.ensures in
-    let h₉ = c.if-i-tree.false in
-    let l₁₆ = occupied_lowest w (facts w c.requires _ l₉ h₉) _ c.occupied-occupied.ensures _ c.lowest_empty-d.ensures in
-    sym (tree_passes w c.requires _ l₉ h₉ _ l₁₆ c.if-d-tree.false)
+    let l₉ = none_found _ _ c.lowest_bad_home.result (search rules) c.lowest_bad_home.ensures in
+    let none = none_found _ _ c.lowest_empty.result (search rules) c.lowest_empty.ensures in
+    let l₁₆ = occupied_lowest w (facts w c.requires _ l₉ (omega arith)) _ c.occupied-occupied.ensures _ none in
+    sym (tree_passes w c.requires _ l₉ (omega arith) _ l₁₆ (omega arith))

@@ -1,12 +1,12 @@
 -- The tests of a run: the tree's, then the state's, then the schedule's.
 use mathlib.Core.Path.{◌≡◌, refl, sym, ◌∙◌}
 use mathlib.Core.Bool.{Bool, true, false, ◌&&◌, not}
-use mathlib.Core.List.{List, [], ◌++◌}
+use mathlib.Core.List.{List, ◌++◌}
 use Prim.Native.Nat.{ℕ}
 use Rattle.model.specs.declared.TreeWords.{TreeWords}
 use Rattle.model.specs.declared.LockState.{LockState}
 use Rattle.model.specs.Trees.{Tree, tree_of}
-use Rattle.model.specs.Refusals.{Refusal, refusal, accepted, first_refusal, schedule_tests, room_tests, state_tests, tree_tests, tree_refusal, bad_state, bad_entry, run_tests_before_19}
+use Rattle.model.specs.Refusals.{Refusal, refusal, accepted, first_refusal, state_tests, tree_tests, tree_refusal, bad_state, bad_entry, run_tests_before_19}
 use Rattle.model.specs.Counters.{good_counts}
 use Rattle.model.specs.WellFormed.{well_formed}
 use Rattle.model.proofs.Laws.Refusals.{tree_numbered}

@@ -1,31 +1,15 @@
 -- `refusals::trees::domains_pass` meets its contract: the domains so far fail none of 6 to 8.
-use mathlib.Core.Path.{◌∙◌}
-use mathlib.Core.Bool.{false≢true}
-use native.Mathlib.Omega.{arith}
-use lib.ListN.{get_or}
+use Rattle.std.proofs.Common.{◌≡◌, ◌<◌, get_or, arith, rules}
 use Rattle.refusals.proofs.Domains.{passed_first, passed_next, passed_all}
-use borrow.Author.Rules.{rules}
 use Rattle.refusals.proofs.trees.domains_pass.Goals as goal
 
 pub loop-d-init : goal.loop-d-init
-loop-d-init c = (search rules, search rules, passed_first _ _ _)
-
-pub returns-then-d-byte_number : goal.returns-then-d-byte_number
-returns-then-d-byte_number c = record { sound = λ e. absurd (false≢true e) }
-
-pub overflow_add-level : goal.overflow_add-level
-overflow_add-level c = let p = get_or c.args.parents.now c.loop-d.d 0 in
-    omega (arith, c.loop-d.invariant.2.levels.few p (omega (arith, c.byte_number.ensures)))
-
-pub returns-then-level-gt6 : goal.returns-then-level-gt6
-returns-then-level-gt6 c = record { sound = λ e. absurd (false≢true e) }
-
-pub returns-then-h-eq0 : goal.returns-then-h-eq0
-returns-then-h-eq0 c = record { sound = λ e. absurd (false≢true e) }
+loop-d-init c = passed_first _
 
 pub loop-d-preserved : goal.loop-d-preserved
-loop-d-preserved c = let fits = c.of_16_bits-h.ensures in
-    (omega arith, omega arith, passed_next _ _ _ _ _ c.requires.1 c.loop-d.invariant.2 c.loop-d.invariant.0 c.loop-d-test.true (omega (arith, c.byte_number.ensures)) c.if-level-gt6.false fits.1 (λ z. c.if-h-eq0.false (fits.0 ∙ z)))
+loop-d-preserved c = let small : get_or c.args.tree.now.thresholds c.loop-d.d 0 < 65536 = search rules in
+    let some : get_or c.args.tree.now.thresholds c.loop-d.d 0 ≡ 0 → ⊥ = search rules in
+    rw c.from-in-loop-d.ensures (passed_next _ _ _ c.requires.1 c.loop-d.invariant c.loop-d.auto.d c.loop-d-test.true (rw c.from.ensures at c.if-d-from.false) (rw c.from-in-loop-d.ensures at c.if-level-gt6.false) small some)
 
 pub returns : goal.returns
-returns c = record { sound = λ _. passed_all _ _ _ _ _ c.loop-d.invariant.2 (omega arith) }
+returns c = record { sound = λ _. passed_all _ _ _ c.loop-d.invariant (omega (arith, c.requires.0, c.loop-d.auto.d-end)) }

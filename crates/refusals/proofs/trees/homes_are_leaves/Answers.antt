@@ -1,20 +1,16 @@
--- `refusals::trees::homes_are_leaves` meets its contract: so far each byte is marked in exactly one of the two tables.
-use mathlib.Core.Path.{◌≡◌, refl}
-use native.Mathlib.Omega.{arith}
-use native.Mathlib.Numerals.{add-one}
-use Rattle.model.specs.Scans.{all_below}
-use Rattle.refusals.proofs.Homes.{tables_differ}
-use borrow.Author.Rules.{rules}
+-- `refusals::trees::homes_are_leaves` meets its contract: the fold tests each byte of both tables.
+use Rattle.std.proofs.Common.{◌≡◌, Bool, true, ◌&&◌, length, sym, ◌∙◌, rules, tests}
+use Rattle.std.proofs.lemmas.Iterator.{YieldsList-from_slice, YieldsList-from_zip}
+use Rattle.std.proofs.lemmas.Iterator.Consumers.{fold_from_yields_List}
+use Rattle.refusals.proofs.Homes.{differ, fold_alike, tables_differ}
 use Rattle.refusals.proofs.trees.homes_are_leaves.Goals as goal
 
-pub loop-x-init : goal.loop-x-init
-unfolding all_below
-loop-x-init c = (search rules, refl)
-
-pub loop-x-preserved : goal.loop-x-preserved
-unfolding all_below
-loop-x-preserved c = (omega arith, rw (c.both-same.ensures, c.differs-one.ensures, c.loop-x.invariant.1, add-one c.loop-x.x))
-
 pub returns : goal.returns
-returns c = let done : c.loop-x.x ≡ 256 = omega arith in
-    tables_differ _ _ _ _ _ _ _ c.requires.1 c.marked_homes.ensures c.mark_unfit_homes.ensures (rw done at c.loop-x.invariant.1)
+returns c =
+    let ms = c.marked_homes-marked.result in
+    let us = c.unfit_homes-unfit.result in
+    let room = c.marked_homes-marked.ensures.room in
+    let long : length us ≡ 256 = search rules in
+    let folded = fold_from_yields_List _ (λ (same : Bool) (p : Bool × Bool). same && differ p.0 p.1) true c.fold.result c.fold.ensures.ran
+    (YieldsList-from_zip (YieldsList-from_slice ms (cc)) (YieldsList-from_slice us (cc))) (λ a x b q k. search (rules, tests)) in
+    tables_differ _ _ _ _ ms us _ c.requires.1 c.marked_homes-marked.ensures c.unfit_homes-unfit.ensures (rw room at (folded ∙ fold_alike ms us true (room ∙ sym long)))

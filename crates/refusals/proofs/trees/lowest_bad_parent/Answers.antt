@@ -1,17 +1,22 @@
--- `refusals::trees::lowest_bad_parent` meets its contract: all domains so far have good parents.
-use mathlib.Core.Path.{sym, ◌∙◌}
+-- `refusals::trees::lowest_bad_parent` meets its contract: the parent of a domain other than the root is the word that is read.
 use native.Mathlib.Omega.{arith}
-use Rattle.refusals.proofs.Scanning.{scan_begun, scan_goes_on, scan_found, scan_ended}
+use Rattle.std.proofs.Common.{rules, tests, ℕ, Bool, false, leb, get_or, refl}
+use Rattle.std.proofs.lemmas.Iterator.{YieldsList-from_range}
+use Rattle.std.proofs.lemmas.Iterator.Search.{find_from_yields_List}
+use Rattle.model.specs.Trees.{tree_of}
+use borrow.Author.Tests.{ne_eqb}
+use Rattle.model.specs.Refusals.{bad_parent}
+use Rattle.refusals.proofs.Reading.{parent_of}
+use Rattle.refusals.proofs.Scanning.{single}
+use Rattle.refusals.proofs.Ranges.{found_lowest}
 use Rattle.refusals.proofs.trees.lowest_bad_parent.Goals as goal
 
-pub loop-d-init : goal.loop-d-init
-loop-d-init c = scan_begun _ _
-
-pub returns-then-bad_parent_at : goal.returns-then-bad_parent_at
-returns-then-bad_parent_at c = scan_found _ _ _ c.loop-d.invariant (sym c.bad_parent_at.ensures ∙ c.if-bad_parent_at.true)
-
-pub loop-d-preserved : goal.loop-d-preserved
-loop-d-preserved c = scan_goes_on _ _ _ c.loop-d.invariant (omega arith) (sym c.bad_parent_at.ensures ∙ c.if-bad_parent_at.false)
-
 pub returns : goal.returns
-returns c = scan_ended _ _ _ c.loop-d.invariant (omega arith)
+unfolding bad_parent
+returns c =
+    let w = c.args.tree.now in
+    let test : ℕ → Bool = λ d. leb d (get_or w.parents d 0) in
+    found_lowest test (bad_parent (tree_of w)) 1 w.domains c.find.result
+    (find_from_yields_List test _ _ c.find.result c.find.ensures.ran (YieldsList-from_range 1 w.domains _ (cc) refl) (λ x b q k. search (rules, tests)))
+    (omega arith) (single _ false refl)
+    (λ d p l. rw (ne_eqb d 0 (omega arith), parent_of w d (omega arith) l))

@@ -1,16 +1,15 @@
--- `refusals::trees::lowest_empty` meets its contract: all domains so far are marked.
+-- `refusals::trees::lowest_empty` meets its contract: each test reads the table.
 use native.Mathlib.Omega.{arith}
-use Rattle.refusals.proofs.Scanning.{scan_begun, scan_goes_on, scan_found, scan_ended}
+use Rattle.std.proofs.Common.{rules, tests, ℕ, Bool, false, not, get_or, refl}
+use Rattle.std.proofs.lemmas.Iterator.{YieldsList-from_range}
+use Rattle.std.proofs.lemmas.Iterator.Search.{find_from_yields_List}
+use Rattle.refusals.proofs.Ranges.{found_lowest}
 use Rattle.refusals.proofs.trees.lowest_empty.Goals as goal
 
-pub loop-d-init : goal.loop-d-init
-loop-d-init c = scan_begun _ _
-
-pub returns-then-not-occupied-at : goal.returns-then-not-occupied-at
-returns-then-not-occupied-at c = scan_found _ _ _ c.loop-d.invariant c.if-not-occupied-at.true-raw
-
-pub loop-d-preserved : goal.loop-d-preserved
-loop-d-preserved c = scan_goes_on _ _ _ c.loop-d.invariant (omega arith) c.if-not-occupied-at.false-raw
-
 pub returns : goal.returns
-returns c = scan_ended _ _ _ c.loop-d.invariant (omega arith)
+returns c =
+    let test : ℕ → Bool = λ d. not (get_or c.args.occupied.now d false) in
+    found_lowest test (λ d. not (get_or c.args.occupied.now d false)) 0 c.args.domains c.find.result
+    (find_from_yields_List test _ _ c.find.result c.find.ensures.ran (YieldsList-from_range 0 c.args.domains _ (cc) refl) (λ x b q k. search (rules, tests)))
+    (omega arith) (λ j l. absurd (omega arith))
+    (λ d p l. refl)

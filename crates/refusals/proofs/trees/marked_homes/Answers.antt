@@ -1,25 +1,14 @@
 -- `refusals::trees::marked_homes` meets its contract: the homes of the threads so far are marked.
-use mathlib.Core.Path.{◌≡◌}
-use native.Mathlib.Omega.{arith}
+use Rattle.std.proofs.Common.{◌<◌, get_or, arith, rules}
 use native.Mathlib.Decide.{ℕ_discrete}
 use Rattle.refusals.proofs.Homes.{marked_none, marked_more}
-use borrow.Author.Rules.{rules}
 use Rattle.refusals.proofs.trees.marked_homes.Goals as goal
 
 pub loop-i-init : goal.loop-i-init
-loop-i-init c = (search rules, marked_none _ 256, λ j l. absurd (omega arith))
-
-pub bounds-marked-h : goal.bounds-marked-h
-bounds-marked-h c = omega (arith, c.byte_index-h.ensures.1)
+loop-i-init c = (marked_none _, λ j l. absurd (omega arith))
 
 pub loop-i-preserved : goal.loop-i-preserved
-loop-i-preserved c = let e = c.byte_index-h.ensures in
-    let small = rw e.0 at e.1 in (
-      omega arith,
-      rw e.0 (marked_more _ 256 _ _ c.loop-i.invariant.1 small),
-      λ j h. elim (ℕ_discrete j c.loop-i.i) [ yes z ↦ rw z small | no z ↦ c.loop-i.invariant.2 j (omega arith) ],
-    )
-
-pub returns : goal.returns
-returns c = let done : c.loop-i.i ≡ c.args.threads = omega arith in
-    record { byte = λ j h. c.loop-i.invariant.2 j (omega arith); home = rw done at c.loop-i.invariant.1.marks }
+loop-i-preserved c = let small : get_or c.args.tree.now.homes c.loop-i.i 0 < 256 = search rules in (
+  rw c.from-h.ensures (marked_more _ _ _ c.loop-i.invariant.0 small),
+  λ j h. elim (ℕ_discrete j c.loop-i.i) [ yes z ↦ rw z small | no z ↦ c.loop-i.invariant.1 j (omega arith) ],
+)
