@@ -92,13 +92,7 @@ impl Tables {
         requires sound_place { SoundPlace (tree_of tree.now) state.now.statuses i (numbers_at state.now.places i) }
         ensures { result ≡ link_by (tree_of tree.now) state.now self.now.ahead self.now.linking self.now.tickets i }
     {
-        let q = places::place_at(
-            &state.places.rows,
-            &state.places.domains,
-            &state.places.peers,
-            &state.places.words,
-            usize::from(i),
-        );
+        let q = places::place_at(&state.places, usize::from(i));
         let r = own_record(tree, i, q.domain);
         self.link_in(tree, state, q, r)
     }

@@ -183,13 +183,7 @@ impl Tables {
         ensures { Filled (tree_of tree.now) state.now (j + 1) self.new.ahead self.new.linking self.new.tickets }
     {
         let at = usize::from(j);
-        let q = places::place_at(
-            &state.places.rows,
-            &state.places.domains,
-            &state.places.peers,
-            &state.places.words,
-            at,
-        );
+        let q = places::place_at(&state.places, at);
         let there = own_record(tree, j, q.domain);
         let from = acts_from(q, state.statuses[usize::from(there)]);
         let root = own_record(tree, j, 0);

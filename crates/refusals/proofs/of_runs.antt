@@ -1,7 +1,6 @@
 -- Facts about the tests of a state that the proofs of the functions use.
 pub mod Owning
 pub mod Members
-pub mod RowShapes
 pub mod PlaceTests
 pub mod Resting
 pub mod Folds

@@ -2,18 +2,21 @@
 use mathlib.Core.Path.{◌≡◌, refl, sym, ap, ◌∙◌}
 use mathlib.Core.Bool.{Bool, true, false, ◌&&◌, cond}
 use mathlib.Core.List.{List}
-use Prim.Native.Nat.{ℕ, suc, ◌+◌, ◌-◌, ◌≤◌, ◌<◌}
+use Prim.Native.Nat.{ℕ, zero, suc, ◌+◌, ◌-◌, ◌≤◌, ◌<◌}
 use native.Mathlib.Omega.{arith}
 use native.Mathlib.Decide.{ℕ_discrete}
 use lib.Dec.{eqb}
-use lib.ListN.{get_or}
+use lib.ListN.{get_or, length, take, drop}
 use lib.Bits.{bit_or, or_add_and, and_le_l, and_le_r}
 use borrow.Author.Tests.{eq-eqb, ne_eqb, eqb-true}
+use Rattle.std.specs.List.{fold, slice_range}
+use Rattle.std.proofs.lemmas.List.{length-drop, get_or-drop}
+use Rattle.std.proofs.lemmas.List.Sums.{fold_more}
 use Rattle.model.specs.Scans.{all_below}
 use Rattle.model.specs.declared.PlaceArrays.{PlaceArrays}
 use Rattle.model.specs.declared.State.{State}
 use Rattle.model.specs.States.{numbers_at}
-use Rattle.model.proofs.Tests.{and_both, all_each, all_true}
+use Rattle.model.proofs.Tests.{and_both, all_same, all_each, all_true}
 use Rattle.refusals.specs.OfRuns.Tables.{record_in, idle_in, zeros_between, places_clear, records_clear, clear_in}
 
 pub or_zero : (a b : ℕ) → eqb (bit_or a b) 0 ≡ eqb a 0 && eqb b 0
@@ -30,20 +33,21 @@ or_zero a b =
       | no x ↦ rw (ne_eqb (bit_or a b) 0 (λ z. x (omega arith)), ne_eqb a 0 x)
     ]
 
--- the start of the fold, and one more number
-pub zeros_none : (a : ℕ) (l : List ℕ) → eqb 0 0 ≡ zeros_between a a l
-unfolding zeros_between all_below
-zeros_none a l = let z : a - a ≡ 0 = omega arith in rw z
+-- the first n numbers of a list
+zeros_first : (n : ℕ) (l : List ℕ) → n ≤ length l → eqb (fold bit_or 0 (take n l)) 0 ≡ all_below n (λ k. eqb (get_or l k 0) 0)
+unfolding all_below
+zeros_first zero l h = refl
+zeros_first (suc n) l h =
+    let more : suc n ≡ n + 1 = omega arith in
+    rw (more, fold_more bit_or 0 l n 0 (omega arith), or_zero (fold bit_or 0 (take n l)) (get_or l n 0), zeros_first n l (omega arith))
 
-pub zeros_next : (a k v : ℕ) (l : List ℕ) → a ≤ k → eqb v 0 ≡ zeros_between a k l → eqb (bit_or v (get_or l k 0)) 0 ≡ zeros_between a (k + 1) l
-unfolding zeros_between all_below
-zeros_next a k v l h e =
-    let more : k + 1 - a ≡ suc (k - a) = omega arith in
-    let here : a + (k - a) ≡ k = omega arith in
-    rw (more, here, ← e) (or_zero v (get_or l k 0))
-
-pub zeros_all : (a k b : ℕ) (l : List ℕ) {x : Bool} → b ≤ k → k ≤ b → x ≡ zeros_between a k l → x ≡ zeros_between a b l
-zeros_all a k b l h g e = let z : k ≡ b = omega arith in e ∙ ap (λ n. zeros_between a n l) z
+-- the fold over the numbers between two indices
+pub zeros_folded : (r a b : ℕ) (l : List ℕ) → b ≤ length l → r ≡ fold bit_or 0 (slice_range l a b) → eqb r 0 ≡ zeros_between a b l
+unfolding zeros_between
+zeros_folded r a b l h e =
+    let long = length-drop a l in
+    rw e (zeros_first (b - a) (drop a l) (omega (arith, long))
+    ∙ all_same (b - a) (λ k. eqb (get_or (drop a l) k 0) 0) (λ k. eqb (get_or l (a + k) 0) 0) (λ k w. ap (λ x. eqb x 0) (get_or-drop a l k 0)))
 
 -- from the test of all to each number, and back
 pub zero_there : (a b : ℕ) (l : List ℕ) → zeros_between a b l ≡ true → (j : ℕ) → a ≤ j → j < b → get_or l j 0 ≡ 0

@@ -1,7 +1,7 @@
 -- The tests with the table of owners together: a state passes them exactly if it is well formed.
 use mathlib.Core.Path.{◌≡◌, refl, sym, ap, ◌∙◌}
 use mathlib.Core.Bool.{Bool, true, false, ◌&&◌, ◌||◌, not, cond}
-use mathlib.Core.List.{List, []}
+use mathlib.Core.List.{List}
 use mathlib.Core.Logic.{◌⊎◌, inl, inr, ⊎_elim}
 use Prim.Native.Nat.{ℕ, zero, suc, ◌+◌, ◌-◌, ◌≤◌, ◌<◌}
 use native.Mathlib.Omega.{arith}
@@ -10,21 +10,16 @@ use native.Mathlib.Decide.{dec_lt}
 use lib.Dec.{eqb, ltb}
 use lib.ListN.{get_or}
 use borrow.Author.Tests.{eq-eqb, ne_eqb, lt-ltb, le-ltb, ltb-true}
-use Rattle.model.specs.declared.TreeWords.{TreeWords}
 use Rattle.model.specs.declared.State.{State}
-use Rattle.model.specs.declared.PlaceWords.{PlaceWords}
 use Rattle.model.specs.Scans.{all_below}
 use Rattle.model.specs.States.{tail, next, status, numbers_at}
-use Rattle.model.specs.Trees.{Tree, tree_of, is_ticket, is_record, owner_domain}
+use Rattle.model.specs.Trees.{Tree, is_ticket, is_record, owner_domain}
 use Rattle.model.specs.WellFormed.{good_tail, good_next, good_status, good_watch, good_thread, good_counters, well_formed}
 use Rattle.model.proofs.Places.{idle_numbers}
 use Rattle.model.proofs.Trees.Accepted.{Accepted}
 use Rattle.model.proofs.Trees.Tickets.{ticket_lower}
 use Rattle.model.proofs.Tests.{and_true, and_grouped, all_same, by_test}
-use Rattle.model.proofs.Trees.Reading.{read_in}
-use Rattle.refusals.specs.Arrays.{tree_in, parents_in}
-use Rattle.refusals.specs.OfRuns.Tables.{Owners, member_in, next_in, record_in, domain_words_in, ticket_place_in, place_in, root_in, idle_in, thread_in}
-use Rattle.refusals.proofs.Meeting.{meets_same, child_same}
+use Rattle.refusals.specs.OfRuns.Tables.{Owners, member_in, next_in, record_in, domain_words_in, place_in, root_in, idle_in, thread_in}
 use Rattle.refusals.proofs.of_runs.Members.{owner_low, tail_is, record_is}
 use Rattle.refusals.proofs.of_runs.PlaceTests.{place_is}
 
@@ -51,107 +46,87 @@ unfolding all_below
 root_alone zero f h = refl
 root_alone (suc n) f h = rw (root_alone n f h, h n) (and_true (f 0))
 
--- the test of a place reads only the parents of the tree
-place_same :
-    (k : ℕ) (t u : Tree) (os vs : List ℕ) (i h : ℕ) (q : PlaceWords) → ((e : ℕ) → t.parent e ≡ u.parent e) → place_in k t os vs i h q ≡ place_in k u os vs i h q
-unfolding place_in ticket_place_in
-place_same k t u os vs i h q f = rw (meets_same 6 t u h q.domain f, child_same 6 t u 0 h f)
-
--- the table has the home of each thread
-pub owner_is : (n m : ℕ) (ps hs os : List ℕ) → Owners (tree_in n m ps [] hs) os → m ≤ 256 → (i : ℕ) → i < m → get_or os i 0 ≡ get_or hs i 0
-unfolding is_record owner_domain tree_of
-owner_is n m ps hs os owned few i l =
-    owned.owner i (omega arith) ∙ rw (lt-ltb i 256 (omega arith), lt-ltb i m l, read_in 0 m hs i (omega arith) l)
-
-module _ (w : TreeWords) (valid : Accepted (tree_of w)) (os : List ℕ) (owned : Owners (tree_in w.domains w.threads w.parents [] w.homes) os) where
-  -- members do not depend on thresholds
-  owners : Owners (tree_of w) os
-  unfolding is_record owner_domain tree_of
-  owners = record { owner = λ r l. owned.owner r l }
-
-  pub owner_home : (i : ℕ) → i < w.threads → get_or os i 0 ≡ (tree_of w).home i
-  unfolding is_record owner_domain tree_of
+module _ (t : Tree) (valid : Accepted t) (os : List ℕ) (owners : Owners t os) where
+  pub owner_home : (i : ℕ) → i < t.threads → get_or os i 0 ≡ t.home i
+  unfolding is_record owner_domain
   owner_home i l =
       let few = valid.few_threads in
-      owners.owner i (omega arith) ∙ rw (lt-ltb i 256 (omega arith), lt-ltb i w.threads l)
+      owners.owner i (omega arith) ∙ rw (lt-ltb i 256 (omega arith), lt-ltb i t.threads l)
 
-  no_owner : (i : ℕ) → i < 256 → w.threads ≤ i → get_or os i 0 ≡ 255
-  unfolding is_record tree_of
-  no_owner i l h = owners.owner i (omega arith) ∙ rw (lt-ltb i 256 l, le-ltb i w.threads h)
+  no_owner : (i : ℕ) → i < 256 → t.threads ≤ i → get_or os i 0 ≡ 255
+  unfolding is_record
+  no_owner i l h = owners.owner i (omega arith) ∙ rw (lt-ltb i 256 l, le-ltb i t.threads h)
 
   -- the owner of a domain's record: none for the root and outside the tree, a domain of the tree otherwise
-  pub no_record_owner : (d : ℕ) → d < 64 → (d ≡ 0) ⊎ (w.domains ≤ d) → get_or os (256 + d) 0 ≡ 255
-  unfolding is_record tree_of
+  pub no_record_owner : (d : ℕ) → d < 64 → (d ≡ 0) ⊎ (t.domains ≤ d) → get_or os (256 + d) 0 ≡ 255
+  unfolding is_record
   no_record_owner d l e =
       let z : 256 + d - 256 ≡ d = omega arith in
       owners.owner (256 + d) (omega arith)
-      ∙ rw (le-ltb (256 + d) 256 (omega arith), z) (none (ltb d w.domains) (eqb d 0) _ (⊎_elim (λ y. inr (eq-eqb d 0 y)) (λ y. inl (le-ltb d w.domains y)) e))
+      ∙ rw (le-ltb (256 + d) 256 (omega arith), z) (none (ltb d t.domains) (eqb d 0) _ (⊎_elim (λ y. inr (eq-eqb d 0 y)) (λ y. inl (le-ltb d t.domains y)) e))
     where
       none : (a b : Bool) (x : ℕ) → (a ≡ false) ⊎ (b ≡ true) → cond (a && not b) x 255 ≡ 255
       none a b x (inl y) = rw y
       none true b x (inr y) = rw y
       none false b x (inr y) = refl
 
-  pub record_owner : (d : ℕ) → 0 < d → d < w.domains → get_or os (256 + d) 0 < w.domains
-  unfolding is_record owner_domain tree_of
+  pub record_owner : (d : ℕ) → 0 < d → d < t.domains → get_or os (256 + d) 0 < t.domains
+  unfolding is_record owner_domain
   record_owner d p l =
       let z : 256 + d - 256 ≡ d = omega arith in
       let few = valid.few_domains in
       let low = valid.parent_lower d p l in
-      rw (owners.owner (256 + d) (omega arith), le-ltb (256 + d) 256 (omega arith), z, lt-ltb d w.domains l, ne_eqb d 0 (omega arith)) (omega arith)
+      rw (owners.owner (256 + d) (omega arith), le-ltb (256 + d) 256 (omega arith), z, lt-ltb d t.domains l, ne_eqb d 0 (omega arith)) (omega arith)
 
   -- and no record's owner is outside the tree
-  pub no_member : (d r : ℕ) → w.domains ≤ d → d < 64 → member_in os d r ≡ false
-  unfolding tree_of
+  pub no_member : (d r : ℕ) → t.domains ≤ d → d < 64 → member_in os d r ≡ false
   no_member d r h l = by (ltb r 320) refl
     where
       by : (b : Bool) → ltb r 320 ≡ b → b && eqb (get_or os r 0) d ≡ false
       by true e =
           let small = ltb-true r 320 e in
-          rw (owners.owner r small) (by_test (λ x. eqb x d ≡ false) (is_record (tree_of w) r) (owner_domain (tree_of w) r) 255 (λ y. ne_eqb _ d (λ q. absurd (omega (arith, owner_low (tree_of w) valid r y)))) (λ y. ne_eqb 255 d (omega arith)))
+          rw (owners.owner r small) (by_test (λ x. eqb x d ≡ false) (is_record t r) (owner_domain t r) 255 (λ y. ne_eqb _ d (λ q. absurd (omega (arith, owner_low t valid r y)))) (λ y. ne_eqb 255 d (omega arith)))
       by false e = refl
 
-  pub owner_real : (i : ℕ) → i < w.threads → get_or os i 0 < w.domains
-  unfolding tree_of
+  pub owner_real : (i : ℕ) → i < t.threads → get_or os i 0 < t.domains
   owner_real i l = rw (owner_home i l) (valid.home_real i l)
 
   module _ (s : State) where
     abbrev place_at : ℕ → Bool
     place_at i =
         let q = numbers_at s.places i in
-        cond (ltb i w.threads) (place_in w.ticket_root (parents_in w.domains w.parents) os s.statuses i (get_or os i 0) q) (idle_in q)
+        cond (ltb i t.threads) (place_in t os s.statuses i (get_or os i 0) q) (idle_in q)
 
-    place_good : (i : ℕ) → place_at i ≡ good_thread (tree_of w) s i
-    unfolding good_thread good_watch tree_of
+    place_good : (i : ℕ) → place_at i ≡ good_thread t s i
+    unfolding good_thread good_watch
     place_good i =
         let q = numbers_at s.places i in
-        elim (dec_lt i w.threads) [
+        elim (dec_lt i t.threads) [
           | yes l ↦
-              rw (lt-ltb i w.threads l, owner_home i l)
-              (place_same w.ticket_root (parents_in w.domains w.parents) (tree_of w) os s.statuses i ((tree_of w).home i) q (λ e. refl)
-              ∙ place_is (tree_of w) valid os s.statuses owners w.ticket_root refl i l q.row q.domain q.peer q.word)
-          | no l ↦ rw (le-ltb i w.threads (omega arith)) (idle_numbers q)
+              rw (lt-ltb i t.threads l, owner_home i l)
+              (place_is t valid os s.statuses owners i l q.row q.domain q.peer q.word)
+          | no l ↦ rw (le-ltb i t.threads (omega arith)) (idle_numbers q)
         ]
 
     abbrev domain_at : ℕ → Bool
     domain_at d = domain_words_in os d (tail s d) (next s (256 + d)) (status s (256 + d))
 
     abbrev thread_at : ℕ → Bool
-    thread_at i = thread_in w.ticket_root (parents_in w.domains w.parents) os s.statuses w.threads i (numbers_at s.places i) (next s i) (status s i)
+    thread_at i = thread_in t os s.statuses i (numbers_at s.places i) (next s i) (status s i)
 
     abbrev record_at : ℕ → Bool
     record_at r = record_in os r (next s r) (status s r)
 
     -- the test of a thread is that of its record and of its place
     thread_both : (i : ℕ) → i < 256 → thread_at i ≡ record_at i && place_at i
-    unfolding thread_in tree_of
+    unfolding thread_in
     thread_both i small =
-        elim (dec_lt i w.threads) [
+        elim (dec_lt i t.threads) [
           | yes l ↦
               let h = owner_real i l in
-              rw (lt-ltb i w.threads l, ne_eqb (get_or os i 0) 255 (omega (arith, h, valid.few_domains)))
+              rw (lt-ltb i t.threads l, ne_eqb (get_or os i 0) 255 (omega (arith, h, valid.few_domains)))
           | no l ↦
-              rw (le-ltb i w.threads (omega arith), no_owner i small (omega arith))
+              rw (le-ltb i t.threads (omega arith), no_owner i small (omega arith))
               (swapped (idle_in (numbers_at s.places i)) (eqb (next s i) 0 && eqb (status s i) 0))
         ]
       where
@@ -163,46 +138,46 @@ module _ (w : TreeWords) (valid : Accepted (tree_of w)) (os : List ℕ) (owned :
 
     -- no tail at a ticket root
     abbrev root_tail : Bool
-    root_tail = not (tree_of w).ticket_root || eqb (tail s 0) 0
+    root_tail = not t.ticket_root || eqb (tail s 0) 0
 
-    root_tail_is : not (is_ticket (tree_of w) 0) || eqb (tail s 0) 0 ≡ root_tail
+    root_tail_is : not (is_ticket t 0) || eqb (tail s 0) 0 ≡ root_tail
     unfolding is_ticket
-    root_tail_is = by (tree_of w).ticket_root
+    root_tail_is = by t.ticket_root
       where
         by : (b : Bool) → not (b && true) || eqb (tail s 0) 0 ≡ not b || eqb (tail s 0) 0
         by true = refl
         by false = refl
 
-    tails_are : all_below 64 (good_tail (tree_of w) s) ≡ all_below 64 (λ d. next_in os d (tail s d)) && root_tail
+    tails_are : all_below 64 (good_tail t s) ≡ all_below 64 (λ d. next_in os d (tail s d)) && root_tail
     tails_are =
-        all_same 64 (good_tail (tree_of w) s) (λ d. next_in os d (tail s d) && (not (is_ticket (tree_of w) d) || eqb (tail s d) 0))
-        (λ d l. tail_is (tree_of w) valid os owners s d l)
-        ∙ all_both 64 (λ d. next_in os d (tail s d)) (λ d. not (is_ticket (tree_of w) d) || eqb (tail s d) 0)
-        ∙ ap (λ b. all_below 64 (λ d. next_in os d (tail s d)) && b) (root_alone 63 (λ d. not (is_ticket (tree_of w) d) || eqb (tail s d) 0) other ∙ root_tail_is)
+        all_same 64 (good_tail t s) (λ d. next_in os d (tail s d) && (not (is_ticket t d) || eqb (tail s d) 0))
+        (λ d l. tail_is t valid os owners s d l)
+        ∙ all_both 64 (λ d. next_in os d (tail s d)) (λ d. not (is_ticket t d) || eqb (tail s d) 0)
+        ∙ ap (λ b. all_below 64 (λ d. next_in os d (tail s d)) && b) (root_alone 63 (λ d. not (is_ticket t d) || eqb (tail s d) 0) other ∙ root_tail_is)
       where
-        other : (d : ℕ) → not (is_ticket (tree_of w) (suc d)) || eqb (tail s (suc d)) 0 ≡ true
-        other d = let z = ticket_lower (tree_of w) (suc d) (λ e. omega arith) in rw z
+        other : (d : ℕ) → not (is_ticket t (suc d)) || eqb (tail s (suc d)) 0 ≡ true
+        other d = let z = ticket_lower t (suc d) (λ e. omega arith) in rw z
 
     -- the test of the root's words
     abbrev root_at : Bool
-    root_at = root_in w.ticket_root (tail s 0) s.ticket s.grant
+    root_at = root_in t (tail s 0) s.ticket s.grant
 
-    root_is : root_tail && good_counters (tree_of w) s ≡ root_at
-    unfolding good_counters tree_of
-    root_is = by (eqb w.ticket_root 0) (eqb (tail s 0) 0) (eqb s.ticket 0 && eqb s.grant 0)
+    root_is : root_tail && good_counters t s ≡ root_at
+    unfolding good_counters
+    root_is = by t.ticket_root (eqb (tail s 0) 0) (eqb s.ticket 0 && eqb s.grant 0)
       where
-        by : (k a b : Bool) → (not (not k) || a) && (not k || b) ≡ cond k b a
-        by true a b = refl
-        by false true b = refl
-        by false false b = refl
+        by : (k a b : Bool) → (not k || a) && (k || b) ≡ cond k a b
+        by true true b = refl
+        by true false b = refl
+        by false a b = refl
 
-    records_are : all_below 320 record_at ≡ all_below 320 (good_next (tree_of w) s) && all_below 320 (good_status (tree_of w) s)
+    records_are : all_below 320 record_at ≡ all_below 320 (good_next t s) && all_below 320 (good_status t s)
     records_are =
-        all_same 320 record_at (λ r. good_next (tree_of w) s r && good_status (tree_of w) s r) (λ r l. record_is (tree_of w) valid os owners s r l)
-        ∙ all_both 320 (good_next (tree_of w) s) (good_status (tree_of w) s)
+        all_same 320 record_at (λ r. good_next t s r && good_status t s r) (λ r l. record_is t valid os owners s r l)
+        ∙ all_both 320 (good_next t s) (good_status t s)
 
     -- well formed: the root, each domain and each thread
-    pub formed_is : well_formed (tree_of w) s ≡ root_at && (all_below 64 domain_at && all_below 256 thread_at)
+    pub formed_is : well_formed t s ≡ root_at && (all_below 64 domain_at && all_below 256 thread_at)
     unfolding well_formed
     formed_is =
         rw (
@@ -211,13 +186,13 @@ module _ (w : TreeWords) (valid : Accepted (tree_of w)) (os : List ℕ) (owned :
           all_both 64 (λ d. next_in os d (tail s d)) (λ d. record_at (256 + d)),
           all_same 256 thread_at (λ i. record_at i && place_at i) thread_both,
           all_both 256 record_at place_at,
-          all_same 256 place_at (good_thread (tree_of w) s) (λ i l. place_good i),
+          all_same 256 place_at (good_thread t s) (λ i l. place_good i),
         )
-        (apart (all_below 64 (λ d. next_in os d (tail s d))) root_tail (all_below 320 (good_next (tree_of w) s)) (all_below 320 (good_status (tree_of w) s))
-        (all_below 256 (good_thread (tree_of w) s)) (good_counters (tree_of w) s)
-        ∙ ap (λ b. (root_tail && good_counters (tree_of w) s) && b)
-        (regroup (all_below 64 (λ d. next_in os d (tail s d))) (all_below 320 (good_next (tree_of w) s)) (all_below 320 (good_status (tree_of w) s))
-        (all_below 256 (good_thread (tree_of w) s)) (all_below 256 record_at) (all_below 64 (λ d. record_at (256 + d)))
+        (apart (all_below 64 (λ d. next_in os d (tail s d))) root_tail (all_below 320 (good_next t s)) (all_below 320 (good_status t s))
+        (all_below 256 (good_thread t s)) (good_counters t s)
+        ∙ ap (λ b. (root_tail && good_counters t s) && b)
+        (regroup (all_below 64 (λ d. next_in os d (tail s d))) (all_below 320 (good_next t s)) (all_below 320 (good_status t s))
+        (all_below 256 (good_thread t s)) (all_below 256 record_at) (all_below 64 (λ d. record_at (256 + d)))
         (sym records_are ∙ all_split 256 64 record_at)))
       where
         none : (a : Bool) → false ≡ a && false

@@ -6,7 +6,7 @@ use Prim.Native.Nat.{ℕ, ◌+◌, ◌≤◌, ◌<◌}
 use native.Mathlib.Omega.{arith}
 use native.Mathlib.Decide.{ℕ_discrete}
 use lib.Dec.{eqb}
-use lib.ListN.{get_or, set, length, length-set}
+use lib.ListN.{get_or, set, length-set}
 use lib.Seq.{get_or-set_same, get_or-set_other}
 use lib.Bits.{bit_or, bit_xor, xor_self, xor_add_and, and_le_l, and_le_r}
 use borrow.Author.Tests.{eq-eqb, ne_eqb}
@@ -34,12 +34,6 @@ pub other_mark : (w h r l : ℕ) → (bit_or r l ≡ 0 → ⊥) → eqb (bit_or 
 other_mark w h r l e = rw (sym (or_zero r l) ∙ ne_eqb (bit_or r l) 0 e, or_zero (bit_xor r w) (bit_xor l h), xor_zero r w, xor_zero l h)
 
 module _ (w : ℕ) (os : List ℕ) (q : PlaceArrays) where
-  pub marks_none : (ms : List ℕ) → length ms ≡ 256 → RestMarks 0 w os q ms
-  marks_none ms e = record { room = e; rests = λ k l. absurd (omega arith) }
-
-  pub marks_fewer : (m n : ℕ) (ms : List ℕ) → m ≤ n → RestMarks n w os q ms → RestMarks m w os q ms
-  marks_fewer m n ms l M = record { room = M.room; rests = λ k h. M.rests k (omega arith) }
-
   -- a mark that is 0: no record, no word, and row and domain of a thread that rests
   rests_there :
       (a b k r p : ℕ)

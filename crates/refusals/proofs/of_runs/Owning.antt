@@ -1,106 +1,103 @@
--- The table of the records' owners, filled in one pass over the homes and one over the parents.
-use mathlib.Core.Path.{◌≡◌, refl, sym, ◌∙◌}
-use mathlib.Core.Bool.{Bool, true, false, ◌&&◌, not, cond}
-use mathlib.Core.List.{List, []}
-use Prim.Native.Nat.{ℕ, zero, suc, ◌+◌, ◌-◌, ◌≤◌, ◌<◌}
+-- The table of the records' owners: the homes of the threads, then the parents of the domains.
+use mathlib.Core.Path.{◌≡◌, sym, ◌∙◌}
+use mathlib.Core.Bool.{cond}
+use mathlib.Core.List.{List, ◌++◌}
+use Prim.Native.Nat.{ℕ, ◌+◌, ◌-◌, ◌≤◌, ◌<◌}
 use native.Mathlib.Omega.{arith}
 use native.Mathlib.Decide.{ℕ_discrete, dec_lt}
-use lib.Dec.{eqb, ltb}
-use lib.ListN.{get_or, set, length, replicate, length-set, get_or-replicate}
-use lib.Seq.{get_or-set_same, get_or-set_other}
-use borrow.Author.Tests.{ne_eqb, lt-ltb, le-ltb, ltb-true, eqb-false}
+use lib.Dec.{ltb}
+use lib.ListN.{get_or, length, take, drop, replicate}
+use borrow.Author.Rules.{rules}
+use borrow.Author.Tests.{eq-eqb, ne_eqb, lt-ltb, le-ltb}
+use borrow.Rule.Slice.PartMut.{put_mid}
+use Rattle.std.specs.List.{slice_range}
+use Rattle.std.proofs.lemmas.List.{get_or-append_right, get_or-drop, get_or-replicate, places}
+use Rattle.model.specs.declared.TreeWords.{TreeWords}
 use Rattle.model.specs.Trees.{tree_of, is_record, owner_domain}
+use Rattle.model.proofs.Tests.{and_false}
 use Rattle.model.proofs.Trees.Reading.{read_in}
-use Rattle.refusals.specs.Arrays.{tree_in}
-use Rattle.refusals.specs.OfRuns.Tables.{thread_owner, ThreadOwners, Owners}
+use Rattle.refusals.specs.OfRuns.Tables.{Owners}
 
--- raising a bound by one makes a difference only at the bound
-bound_next : (r d : ℕ) → (r ≡ d → ⊥) → ltb r (d + 1) ≡ ltb r d
-bound_next r d n =
-    elim (dec_lt r d) [
-      | yes p ↦ lt-ltb r (d + 1) (omega arith) ∙ sym (lt-ltb r d p)
-      | no p ↦ le-ltb r (d + 1) (omega arith) ∙ sym (le-ltb r d (omega arith))
-    ]
+-- a list with numbers put into its middle
+put_below : (a k : ℕ) (xs ys : List ℕ) (i : ℕ) → i < a → a ≤ length xs → get_or (put_mid a k xs ys) i 0 ≡ get_or xs i 0
+put_below a k xs ys i l h = search (rules, places)
 
-pub threads_first : (hs : List ℕ) → ThreadOwners 0 hs (replicate 320 255)
-threads_first hs = record { room = refl; owner = λ r l. rw (le-ltb r 0 (omega arith)) (get_or-replicate 320 r 255 0 l) }
+put_there : (a k : ℕ) (xs ys : List ℕ) (i : ℕ) → a ≤ i → i < a + k → length ys ≡ k → a ≤ length xs → get_or (put_mid a k xs ys) i 0 ≡ get_or ys (i - a) 0
+put_there a k xs ys i g l e h = search (rules, places)
 
-pub threads_next : (i : ℕ) (hs os : List ℕ) → i < 256 → ThreadOwners i hs os → ThreadOwners (i + 1) hs (set os i (get_or hs i 0))
-threads_next i hs os w T =
-    record {
-      room = length-set os i (get_or hs i 0) ∙ T.room;
-      owner = λ r l.
-          elim (ℕ_discrete r i) [
-            | yes e ↦ rw (e, lt-ltb i (i + 1) (omega arith)) (get_or-set_same os i (get_or hs i 0) 0 (omega (arith, T.room)))
-            | no e ↦ rw (bound_next r i e) (get_or-set_other os i r (get_or hs i 0) 0 e ∙ T.owner r l)
-          ];
-    }
+put_above : (a k : ℕ) (xs ys : List ℕ) (i : ℕ) → a + k ≤ i → length ys ≡ k → a ≤ length xs → get_or (put_mid a k xs ys) i 0 ≡ get_or xs i 0
+put_above a k xs ys i g e h = search (rules, places)
 
-pub threads_all : (i m : ℕ) (hs os : List ℕ) → i ≡ m → ThreadOwners i hs os → ThreadOwners m hs os
-threads_all i m hs os e T = record { room = T.room; owner = λ r l. rw (← e) (T.owner r l) }
+module _ (w : TreeWords) (some : 0 < w.domains) (few : w.domains ≤ 64) (small : w.threads ≤ 256) (homes : length w.homes ≡ 256) (parents : length w.parents ≡ 64) where
+  abbrev threaded : List ℕ
+  threaded = take w.threads w.homes ++ drop w.threads (replicate 320 255)
 
--- the owners of the records of the domains below d
-abbrev domain_owner : (d : ℕ) → (parents : List ℕ) → (number : ℕ) → ℕ
-domain_owner d ps r = cond (ltb (r - 256) d && not (eqb (r - 256) 0)) (get_or ps (r - 256) 0) 255
+  abbrev hung : List ℕ
+  hung = slice_range w.parents 1 w.domains
 
-module _ (m : ℕ) (ps hs : List ℕ) (few : m ≤ 256) where
-  pub record DomainOwners (d : ℕ) (os : List ℕ) : Type 0 where
-    pub room : length os ≡ 320
-    pub owner : (r : ℕ) → r < 320 → get_or os r 0 ≡ cond (ltb r 256) (thread_owner m hs r) (domain_owner d ps r)
+  threaded-length : length threaded ≡ 320
+  threaded-length = search (rules, places)
 
-  pub domains_first : (os : List ℕ) → ThreadOwners m hs os → DomainOwners 1 os
-  domains_first os T =
-      record {
-        room = T.room;
-        owner = λ r l.
-            elim (dec_lt r 256) [
-              | yes p ↦ rw (lt-ltb r 256 p) (T.owner r l)
-              | no p ↦ rw (le-ltb r 256 (omega arith)) (T.owner r l ∙ rw (le-ltb r m (omega arith)) (sym (none (r - 256))))
-            ];
-      }
-    where
-      none : (x : ℕ) → cond (ltb x 1 && not (eqb x 0)) (get_or ps x 0) 255 ≡ 255
-      none zero = refl
-      none (suc x) = rw (le-ltb (suc x) 1 (omega arith))
+  hung-length : length hung ≡ 256 + w.domains - 257
+  hung-length = search (rules, places)
 
-  pub domains_next : (d : ℕ) (os : List ℕ) → 0 < d → d < 64 → DomainOwners d os → DomainOwners (d + 1) (set os (256 + d) (get_or ps d 0))
-  domains_next d os p w D =
-      record {
-        room = length-set os (256 + d) (get_or ps d 0) ∙ D.room;
-        owner = λ r l.
-            elim (ℕ_discrete r (256 + d)) [
-              | yes e ↦
-                  let z : (256 + d) - 256 ≡ d = omega arith in
-                  rw (e, le-ltb (256 + d) 256 (omega arith), z, lt-ltb d (d + 1) (omega arith), ne_eqb d 0 (omega arith))
-                  (get_or-set_same os (256 + d) (get_or ps d 0) 0 (omega (arith, D.room)))
-              | no e ↦
-                  get_or-set_other os (256 + d) r (get_or ps d 0) 0 e ∙ D.owner r l
-                  ∙ elim (dec_lt r 256) [
-                    | yes q ↦ rw (lt-ltb r 256 q)
-                    | no q ↦ rw (le-ltb r 256 (omega arith), bound_next (r - 256) d (λ y. e (omega arith)))
-                  ]
-            ];
-      }
+  -- the homes of the threads, and 255 beyond them
+  threaded_home : (r : ℕ) → r < w.threads → get_or threaded r 0 ≡ get_or w.homes r 0
+  threaded_home r l = search (rules, places)
 
-  pub domains_all : (d n : ℕ) (os : List ℕ) → d ≡ n → DomainOwners d os → Owners (tree_in n m ps [] hs) os
+  abbrev empty : List ℕ
+  empty = replicate 320 255
+
+  threaded_none : (r : ℕ) → w.threads ≤ r → r < 320 → get_or threaded r 0 ≡ 255
+  threaded_none r g l =
+      let long : length (take w.threads w.homes) ≡ w.threads = search (rules, places) in
+      let on : w.threads + (r - w.threads) ≡ r = omega arith in
+      rw (get_or-append_right (take w.threads w.homes) (drop w.threads empty) w.threads r 0 long g, get_or-drop w.threads empty (r - w.threads) 0, on)
+      (get_or-replicate 320 r 255 0 l)
+
+  hung_parent : (d : ℕ) → 0 < d → d < w.domains → get_or hung (256 + d - 257) 0 ≡ get_or w.parents d 0
+  hung_parent d p l = let z : 256 + d - 257 ≡ d - 1 = omega arith in search (rules, places)
+
+  -- the table
+  abbrev table : List ℕ
+  table = put_mid 257 (256 + w.domains - 257) threaded hung
+
+  of_thread : (r : ℕ) → r < 256 → get_or table r 0 ≡ cond (is_record (tree_of w) r) (owner_domain (tree_of w) r) 255
   unfolding is_record owner_domain tree_of
-  domains_all d n os same D =
+  of_thread r l =
+      let e = put_below 257 (256 + w.domains - 257) threaded hung r (omega arith) (omega (arith, threaded-length)) in
+      elim (dec_lt r w.threads) [
+        | yes p ↦ rw (e, lt-ltb r 256 l, lt-ltb r w.threads p) (threaded_home r p ∙ sym (read_in 0 w.threads w.homes r (omega arith) p))
+        | no p ↦ rw (e, lt-ltb r 256 l, le-ltb r w.threads (omega arith)) (threaded_none r (omega arith) (omega arith))
+      ]
+
+  of_domain : (d : ℕ) → d < 64 → get_or table (256 + d) 0 ≡ cond (is_record (tree_of w) (256 + d)) (owner_domain (tree_of w) (256 + d)) 255
+  unfolding is_record owner_domain tree_of
+  of_domain d l =
+      let beyond = le-ltb (256 + d) 256 (omega arith) in
+      let here : 256 + d - 256 ≡ d = omega arith in
+      elim (ℕ_discrete d 0) [
+        | yes z ↦
+            let e = put_below 257 (256 + w.domains - 257) threaded hung (256 + d) (omega arith) (omega (arith, threaded-length)) in
+            rw (e, beyond, here, eq-eqb d 0 z, and_false (ltb d w.domains)) (threaded_none (256 + d) (omega arith) (omega arith))
+        | no z ↦
+            elim (dec_lt d w.domains) [
+              | yes p ↦
+                  let e = put_there 257 (256 + w.domains - 257) threaded hung (256 + d) (omega arith) (omega arith) hung-length (omega (arith, threaded-length)) in
+                  rw (e, beyond, here, ne_eqb d 0 z, lt-ltb d w.domains p) (hung_parent d (omega arith) p ∙ sym (read_in 1 w.domains w.parents d (omega arith) p))
+              | no p ↦
+                  let e = put_above 257 (256 + w.domains - 257) threaded hung (256 + d) (omega arith) hung-length (omega (arith, threaded-length)) in
+                  rw (e, beyond, here, le-ltb d w.domains (omega arith)) (threaded_none (256 + d) (omega arith) (omega arith))
+            ]
+      ]
+
+  -- the table has each record's owner
+  pub table_owns : Owners (tree_of w) table
+  table_owns =
       record {
         owner = λ r l.
             elim (dec_lt r 256) [
-              | yes p ↦ D.owner r l ∙ rw (lt-ltb r 256 p) (threaded r (ltb r m) refl)
-              | no p ↦ D.owner r l ∙ rw (same, le-ltb r 256 (omega arith)) (hung (r - 256) (ltb (r - 256) n) (eqb (r - 256) 0) refl refl)
+              | yes p ↦ of_thread r p
+              | no p ↦ let z : r ≡ 256 + (r - 256) = omega arith in rw z (of_domain (r - 256) (omega arith))
             ];
       }
-    where
-      threaded : (r : ℕ) (b : Bool) → ltb r m ≡ b → cond (ltb r m) (get_or hs r 0) 255 ≡ cond (ltb r m) ((tree_in n m ps [] hs).home r) 255
-      threaded r true e = rw (e, read_in 0 m hs r (omega arith) (ltb-true r m e))
-      threaded r false e = rw e
-
-      hung : (x : ℕ) (a b : Bool) → ltb x n ≡ a → eqb x 0 ≡ b →
-          cond (ltb x n && not (eqb x 0)) (get_or ps x 0) 255 ≡ cond (ltb x n && not (eqb x 0)) ((tree_in n m ps [] hs).parent x) 255
-      hung x true false e f =
-          let z = eqb-false x 0 f in
-          rw (e, f, read_in 1 n ps x (omega arith) (ltb-true x n e))
-      hung x true true e f = rw (e, f)
-      hung x false b e f = rw e

@@ -61,13 +61,7 @@ ticket_order true false false true c = refl
 ticket_order true false false false c = refl
 ticket_order false u v d c = sym (and_false (d && (v && u)))
 
-in_order : (a b c : Bool) → a && (b && c) ≡ (b && a) && c
-in_order true true c = refl
-in_order true false c = refl
-in_order false true c = refl
-in_order false false c = refl
-
-module _ (t : Tree) (valid : Accepted t) (os vs : List ℕ) (owned : Owners t os) (k : ℕ) (root : t.ticket_root ≡ not (eqb k 0)) (i : ℕ) (h : i < t.threads) where
+module _ (t : Tree) (valid : Accepted t) (os vs : List ℕ) (owned : Owners t os) (i : ℕ) (h : i < t.threads) where
   -- the tests of a place, and of the status that it watches
   abbrev asked : Place → Bool
   asked p = good_place t i p && (not (is_watch p) || leb (get_or vs (own_record t i 0) 0) 65535)
@@ -85,26 +79,24 @@ module _ (t : Tree) (valid : Accepted t) (os vs : List ℕ) (owned : Owners t os
           member_is t valid os owned l p (omega (arith, o.there, r, valid.few_domains))
       by false c e = refl
 
-  -- a queue place is not at a ticket root
-  ticket_is : (l : ℕ) → not (eqb k 0) && eqb l 0 ≡ is_ticket t l
-  unfolding is_ticket
-  ticket_is l = ap (λ b. b && eqb l 0) (sym root)
-
-  barred_is : (l : ℕ) (c : Bool) → not (eqb l 0 && not (eqb k 0)) && (on_path t i l && c) ≡ queue_on_path t i l && c
-  unfolding queue_on_path
-  barred_is l c =
-      by (eqb l 0) (eqb k 0) ∙ in_order (not (not (eqb k 0) && eqb l 0)) (on_path t i l) c ∙ ap (λ b. (on_path t i l && not b) && c) (ticket_is l)
+  barred_is : (l : ℕ) (c : Bool) → not (eqb l 0 && t.ticket_root) && (on_path t i l && c) ≡ queue_on_path t i l && c
+  unfolding queue_on_path is_ticket
+  barred_is l c = by (eqb l 0) t.ticket_root (on_path t i l)
     where
-      by : (a b : Bool) → not (a && not b) && (on_path t i l && c) ≡ not (not b && a) && (on_path t i l && c)
-      by true true = refl
-      by true false = refl
-      by false true = refl
-      by false false = refl
+      by : (a b d : Bool) → not (a && b) && (d && c) ≡ (d && not (b && a)) && c
+      by true true true = refl
+      by true true false = refl
+      by true false true = refl
+      by true false false = refl
+      by false true true = refl
+      by false true false = refl
+      by false false true = refl
+      by false false false = refl
 
   -- a place of a queue with only a domain
   queue_place :
       (x : Place) (l : ℕ) → asked x ≡ queue_on_path t i l → asked Invalid ≡ false → (u v : Bool) →
-      not (not u && true) && (not (eqb l 0 && not (eqb k 0)) && (on_path t i l && v)) ≡ asked (cond (v && u) x Invalid)
+      not (not u && true) && (not (eqb l 0 && t.ticket_root) && (on_path t i l && v)) ≡ asked (cond (v && u) x Invalid)
   queue_place x l e n u v =
       ap (λ b. not (not u && true) && b) (barred_is l v) ∙ plain_order u v (queue_on_path t i l) ∙ sym (where_fits asked n x (queue_on_path t i l) (v && u) e)
 
@@ -115,18 +107,18 @@ module _ (t : Tree) (valid : Accepted t) (os vs : List ℕ) (owned : Owners t os
   -- a place of a ticket lock
   ticket_place :
       (x : Place) (c : Bool) → asked x ≡ t.ticket_root && c → asked Invalid ≡ false → (u v d : Bool) →
-      not (eqb k 0) && (true && (u && (d && (v && c)))) ≡ asked (cond (d && (v && u)) x Invalid)
+      t.ticket_root && (true && (u && (d && (v && c)))) ≡ asked (cond (d && (v && u)) x Invalid)
   ticket_place x c e n u v d =
-      ticket_order (not (eqb k 0)) u v d c ∙ sym (where_fits asked n x (not (eqb k 0) && c) (d && (v && u)) (e ∙ ap (λ b. b && c) root))
+      ticket_order t.ticket_root u v d c ∙ sym (where_fits asked n x (t.ticket_root && c) (d && (v && u)) e)
 
-  pub place_is : (r l p w : ℕ) → place_in k t os vs i (t.home i) (place_words r l p w) ≡ asked (place_of (place_words r l p w))
+  pub place_is : (r l p w : ℕ) → place_in t os vs i (t.home i) (place_words r l p w) ≡ asked (place_of (place_words r l p w))
   unfolding place_in ticket_place_in place_of good_place is_watch on_path own_record child
   place_is r l p w =
       let u = eqb w 0 in
       let v = eqb p 0 in
       let d = eqb l 0 in
       let free : (b : Bool) → b && (true || leb (get_or vs (own_record t i 0) 0) 65535) ≡ b = and_true in
-      by_row (λ r. place_in k t os vs i (t.home i) (place_words r l p w) ≡ asked (place_of (place_words r l p w))) r
+      by_row (λ r. place_in t os vs i (t.home i) (place_words r l p w) ≡ asked (place_of (place_words r l p w))) r
       (home_place Idle refl refl u v d)
       (queue_place (Prep l) l (free _) refl u v)
       (queue_place (Swap l) l (free _) refl u v)
@@ -139,11 +131,11 @@ module _ (t : Tree) (valid : Accepted t) (os vs : List ℕ) (owned : Owners t os
       (queue_place (Help l) l (free _) refl u v)
       (queue_place (Cas l) l (free _) refl u v)
       (queue_place (Linger l) l (free _) refl u v)
-      (granted_order u (not (d && not (eqb k 0)) && (on_path t i l && member_in os l p)) ∙ barred_is l (member_in os l p) ∙ peer_is l p ∙ sym (free _))
+      (granted_order u (not (d && t.ticket_root) && (on_path t i l && member_in os l p)) ∙ barred_is l (member_in os l p) ∙ peer_is l p ∙ sym (free _))
       (ticket_place Draw true refl refl u v d)
       (ticket_place Watch (leb (get_or vs (own_record t i 0) 0) 65535) refl refl u v d)
       (ticket_place Raise true refl refl u v d)
-      (λ m. rw (lt-ltb 10 r (omega arith), lt-ltb 13 r m, no_place (place_words r l p w) m) (and_false (not (eqb k 0))))
+      (λ m. rw (lt-ltb 10 r (omega arith), lt-ltb 13 r m, no_place (place_words r l p w) m) (and_false t.ticket_root))
     where
       check_free : (a b c : Bool) → not (a && true) && (b && c) ≡ (b && not a) && c
       check_free true b c = sym (ap (λ x. x && c) (and_false b))

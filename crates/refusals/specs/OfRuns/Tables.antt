@@ -1,22 +1,14 @@
 -- The tests of a state with a table of the records' owners. proofs/ shows that they agree with the model's.
-use Rattle.std.specs.Prelude.{◌≡◌, Bool, true, false, ◌&&◌, ◌||◌, not, cond, List, ℕ, ◌+◌, ◌-◌, ◌<◌, eqb, ltb, leb, get_or, length}
+use Rattle.std.specs.Prelude.{◌≡◌, Bool, true, false, ◌&&◌, ◌||◌, not, cond, List, ℕ, ◌+◌, ◌-◌, ◌<◌, ◌≤◌, eqb, ltb, leb, get_or, length}
 use Rattle.model.specs.declared.PlaceArrays.{PlaceArrays}
 use Rattle.model.specs.declared.PlaceWords.{PlaceWords}
 use Rattle.model.specs.declared.State.{State}
+use Rattle.model.specs.declared.TreeWords.{TreeWords}
 use Rattle.model.specs.Scans.{all_below}
 use Rattle.model.specs.States.{numbers_at}
 use Rattle.model.specs.Places.{has_domain, has_peer, has_word}
-use Rattle.model.specs.Trees.{Tree, meets, is_record, owner_domain}
+use Rattle.model.specs.Trees.{Tree, tree_of, meets, is_record, owner_domain}
 use Rattle.refusals.specs.Paths.Records.{own_record_in}
-
--- the home of a thread; 255 if there is no such thread
-abbrev pub thread_owner : (threads : ℕ) → (homes : List ℕ) → (number : ℕ) → ℕ
-thread_owner m hs r = cond (ltb r m) (get_or hs r 0) 255
-
--- for each thread's record, its home, or 255
-pub record ThreadOwners (threads : ℕ) (homes owners : List ℕ) : Type 0 where
-  pub room : length owners ≡ 320
-  pub owner : (r : ℕ) → r < 320 → get_or owners r 0 ≡ thread_owner threads homes r
 
 -- for each record, the domain whose member owns it; 255 if no member does
 pub record Owners (t : Tree) (owners : List ℕ) : Type 0 where
@@ -50,34 +42,30 @@ spare_word_in r w = not (eqb w 0) && not (has_word r)
 abbrev pub peer_in : (owners : List ℕ) → (row domain peer : ℕ) → Bool
 peer_in os r l p = cond (has_peer r) (member_in os l p) (eqb p 0)
 
--- the number means a ticket root
-abbrev pub ticket_in : (kind : ℕ) → Bool
-ticket_in k = not (eqb k 0)
-
 -- the place may not be at this domain: the root in Check, and a ticket root in every place of a queue
-abbrev pub barred_in : (kind row domain : ℕ) → Bool
-barred_in k r l = eqb l 0 && (eqb r 6 || ticket_in k)
+abbrev pub barred_in : Tree → (row domain : ℕ) → Bool
+barred_in t r l = eqb l 0 && (eqb r 6 || t.ticket_root)
 
 -- the domain is on the path from a home and allowed, and the other record fits the row
-abbrev pub domain_in : (kind : ℕ) → Tree → (owners : List ℕ) → (home row domain peer : ℕ) → Bool
-domain_in k t os h r l p = not (barred_in k r l) && (meets 6 t h l && peer_in os r l p)
+abbrev pub domain_in : Tree → (owners : List ℕ) → (home row domain peer : ℕ) → Bool
+domain_in t os h r l p = not (barred_in t r l) && (meets 6 t h l && peer_in os r l p)
 
 -- Draw, Watch and Raise are only at a ticket root, and a watched status is at most 65,535
-unfoldable pub ticket_place_in : (kind : ℕ) → Tree → (statuses : List ℕ) → (thread home : ℕ) → PlaceWords → Bool
-ticket_place_in k t vs i h q =
-    ticket_in k && (not (ltb 13 q.row) && (eqb q.word 0 && (eqb q.domain 0 && (eqb q.peer 0
+unfoldable pub ticket_place_in : Tree → (statuses : List ℕ) → (thread home : ℕ) → PlaceWords → Bool
+ticket_place_in t vs i h q =
+    t.ticket_root && (not (ltb 13 q.row) && (eqb q.word 0 && (eqb q.domain 0 && (eqb q.peer 0
     && (not (eqb q.row 12) || leb (get_or vs (own_record_in t i h 0) 0) 65535)))))
 
 -- the place of a thread fits
-unfoldable pub place_in : (kind : ℕ) → Tree → (owners statuses : List ℕ) → (thread home : ℕ) → PlaceWords → Bool
-place_in k t os vs i h q =
-    cond (ltb 10 q.row) (ticket_place_in k t vs i h q)
+unfoldable pub place_in : Tree → (owners statuses : List ℕ) → (thread home : ℕ) → PlaceWords → Bool
+place_in t os vs i h q =
+    cond (ltb 10 q.row) (ticket_place_in t vs i h q)
     (not (spare_word_in q.row q.word)
-    && cond (has_domain q.row) (domain_in k t os h q.row q.domain q.peer) (eqb q.domain 0 && eqb q.peer 0))
+    && cond (has_domain q.row) (domain_in t os h q.row q.domain q.peer) (eqb q.domain 0 && eqb q.peer 0))
 
 -- the words of the root fit: no tail at a ticket root, no counters at a queue root
-abbrev pub root_in : (kind tail ticket grant : ℕ) → Bool
-root_in k b v g = cond (eqb k 0) (eqb v 0 && eqb g 0) (eqb b 0)
+abbrev pub root_in : Tree → (tail ticket grant : ℕ) → Bool
+root_in t b v g = cond t.ticket_root (eqb b 0) (eqb v 0 && eqb g 0)
 
 -- the place is Idle
 abbrev pub idle_in : PlaceWords → Bool
@@ -97,22 +85,23 @@ pub record RestMarks (threads resting : ℕ) (owners : List ℕ) (places : Place
   pub rests : (k : ℕ) → k < threads → get_or marks k 0 ≡ 0 → rests_in resting (get_or owners k 0) (numbers_at places k) ≡ true
 
 -- the row of threads that rest: Wait, or Idle if their home is a ticket root, which is then the only domain
-abbrev pub resting_row : (kind domains : ℕ) → ℕ
-resting_row k n = cond (ticket_in k && eqb n 1) 0 4
+abbrev pub resting_row : Tree → ℕ
+resting_row t = cond (t.ticket_root && eqb t.domains 1) 0 4
 
 -- the row of a thread that rests: Wait at its home, which is then no ticket root; or Idle, if its home is the root
-pub data Rest (kind home : ℕ) : (row : ℕ) → Type 0 where
-  of_wait : barred_in kind 4 home ≡ false → Rest kind home 4
-  of_idle : home ≡ 0 → Rest kind home 0
+pub data Rest (t : Tree) (home : ℕ) : (row : ℕ) → Type 0 where
+  of_wait : barred_in t 4 home ≡ false → Rest t home 4
+  of_idle : home ≡ 0 → Rest t home 0
 
--- every thread's home is a domain of the tree, and a thread that rests there has a good place
-pub record HomesThere (kind domains threads : ℕ) (owners : List ℕ) : Type 0 where
-  pub home : (i : ℕ) → i < threads → get_or owners i 0 < domains
-  pub rest : (i : ℕ) → i < threads → Rest kind (get_or owners i 0) (resting_row kind domains)
+-- there are at most 256 threads, every thread's home is a domain of the tree, and a thread that rests there has a good place
+pub record HomesThere (w : TreeWords) (owners : List ℕ) : Type 0 where
+  pub few : w.threads ≤ 256
+  pub home : (i : ℕ) → i < w.threads → get_or owners i 0 < w.domains
+  pub rest : (i : ℕ) → i < w.threads → Rest (tree_of w) (get_or owners i 0) (resting_row (tree_of w))
 
 -- the words of a thread fit: the next of its record, and its place
-abbrev pub used_in : (kind : ℕ) → Tree → (owners statuses : List ℕ) → (thread : ℕ) → PlaceWords → (next : ℕ) → Bool
-used_in k t os vs i q n = next_in os (get_or os i 0) n && place_in k t os vs i (get_or os i 0) q
+abbrev pub used_in : Tree → (owners statuses : List ℕ) → (thread : ℕ) → PlaceWords → (next : ℕ) → Bool
+used_in t os vs i q n = next_in os (get_or os i 0) n && place_in t os vs i (get_or os i 0) q
 
 -- UNUSED SLOTS. All numbers from one index up to another, excluded, are 0
 unfoldable pub zeros_between : (from to : ℕ) → List ℕ → Bool
@@ -137,6 +126,6 @@ abbrev pub unused_in : PlaceWords → (next status : ℕ) → Bool
 unused_in q n v = idle_in q && (eqb n 0 && eqb v 0)
 
 -- the slot of a thread fits
-unfoldable pub thread_in : (kind : ℕ) → Tree → (owners statuses : List ℕ) → (threads thread : ℕ) → PlaceWords → (next status : ℕ) → Bool
-thread_in k t os vs m i q n v =
-    cond (ltb i m) (used_in k t os vs i q n) (unused_in q n v)
+unfoldable pub thread_in : Tree → (owners statuses : List ℕ) → (thread : ℕ) → PlaceWords → (next status : ℕ) → Bool
+thread_in t os vs i q n v =
+    cond (ltb i t.threads) (used_in t os vs i q n) (unused_in q n v)

@@ -1,156 +1,71 @@
 // The tests of the homes and of a given state, in a tree that 4 to 8 do not refuse.
-ghost use Rattle.std.specs.Prelude.{◌≡◌, true, ◌&&◌, ◌+◌, ◌<◌, ◌≤◌, get_or};
+ghost use Rattle.std.specs.Prelude.{◌≡◌, true, ◌&&◌, ◌+◌, ◌<◌, ◌≤◌, leb, get_or};
 ghost use Rattle.model.specs.Scans.{all_below};
-ghost use Rattle.model.specs.Trees.{meets};
+ghost use Rattle.model.specs.Refusals.{tree_refusal};
+ghost use Rattle.model.specs.Trees.{tree_of, meets};
 ghost use Rattle.model.specs.States.{numbers_at};
-ghost use Rattle.refusals.specs.Arrays.{parents_in, places_in, Lower};
-ghost use Rattle.refusals.specs.OfRuns.Tables.{member_in, next_in, tail_and_next_in, peer_in, barred_in, domain_in, ticket_place_in, place_in, root_in, resting_row, HomesThere, used_in};
+ghost use Rattle.refusals.specs.OfRuns.Tables.{member_in, next_in, tail_and_next_in, peer_in, barred_in, domain_in, ticket_place_in, place_in, root_in, resting_row, RestMarks, HomesThere, used_in};
+ghost use Rattle.refusals.specs.Paths.Records.{own_record_in};
 
+use crate::of_runs::shapes::{CHECK, GRANT, IDLE, RAISE, WAIT, WATCH};
 use crate::of_runs::{marks, places, shapes};
-use model::PlaceWords;
-
-// The tail of a domain, and the next of its record, given the domain of which it is a member.
-fn good_domain_words_at(owners: &[u8; 320], d: u8, tail: u16, owner: u8, next: u16) -> bool
-    ensures { result ≡ next_in owners.now d tail && next_in owners.now owner next }
-{
-    if !good_next_at(owners, d, tail) {
-        return false;
-    }
-    good_next_at(owners, owner, next)
-}
+use model::{PlaceWords, State, TreeWords};
 
 fn is_member_at(owners: &[u8; 320], d: u8, r: u16) -> bool
     ensures { result ≡ member_in owners.now d r }
 {
-    let at = r as usize;
-    if 320 <= at {
-        return false;
-    }
-    owners[at] == d
+    r < 320 && owners[usize::from(r)] == d
 }
 
 // A tail of a domain, or a next of one of its members' records: none, or such a record.
 fn good_next_at(owners: &[u8; 320], d: u8, next: u16) -> bool
     ensures { result ≡ next_in owners.now d next }
 {
-    let n = next as usize;
-    if n == 0 {
-        return true;
-    }
-    if 320 < n {
-        return false;
-    }
-    let at = n - 1;
-    owners[at] == d
+    next == 0 || is_member_at(owners, d, next - 1)
+}
+
+// The tail of a domain, and the next of its record; the table names the domain whose member the record belongs to.
+fn good_domain_at(owners: &[u8; 320], words: &State, d: u8) -> bool
+    requires { d < 64 }
+    ensures { result ≡ tail_and_next_in owners.now d (get_or words.now.tails d 0) (get_or words.now.nexts (256 + d) 0) }
+{
+    let at = usize::from(d);
+    let record = 256 + at;
+    good_next_at(owners, d, words.tails[at])
+        && good_next_at(owners, owners[record], words.nexts[record])
 }
 
 // The tail of each domain of the tree, and the next of its record; the root has no record.
-pub(crate) fn good_domains<'s>(
-    owners: &[u8; 320],
-    domains: u32,
-    tails: &'s [u16; 64],
-    nexts: &'s [u16; 320],
-) -> bool
+#[tactic(auto, using(crate::proofs::Scanning::one_more, model::proofs::Tests::all_true))]
+pub(crate) fn good_domains(owners: &[u8; 320], domains: u32, words: &State) -> bool
     requires { domains ≤ 64 }
-    ensures { result ≡ all_below domains (λ d. tail_and_next_in owners.now d (get_or tails.now d 0) (get_or nexts.now (256 + d) 0)) }
+    ensures { result ≡ all_below domains (λ d. tail_and_next_in owners.now d (get_or words.now.tails d 0) (get_or words.now.nexts (256 + d) 0)) }
 {
-    let mut d: u8 = 0;
-    while (d as u32) < domains {
-        let at = d as usize;
-        let tail = tails[at];
-        let r = 256 + at;
-        let owner = owners[r];
-        let next = nexts[r];
-        if !good_domain_words_at(owners, d, tail, owner, next) {
+    for d in 0..domains as u8 {
+        if !good_domain_at(owners, words, d) {
             return false;
         }
-        d += 1;
     }
     true
 }
 
-// Whether going up from a domain reaches another.
-fn meets_at(parents: &[u8; 64], domains: u32, from: u8, d: u8) -> bool
-    requires domains_bound { domains ≤ 64 }
-    requires lower { Lower domains parents.now }
-    requires from_lt_domains { from < domains }
-    ensures { result ≡ meets 6 (parents_in domains parents.now) from d }
-{
-    let mut c = from;
-    let mut left: u32 = 6;
-    while 0 < left {
-        if c == d {
-            return true;
-        }
-        if c == 0 {
-            return false;
-        }
-        let at = c as usize;
-        c = parents[at];
-        left -= 1;
-    }
-    c == d
-}
-
 // The root in Check, or a ticket root in any place of a queue.
-fn is_barred_at(ticket_root: u32, row: u8, l: u8) -> bool
-    ensures { result ≡ barred_in ticket_root row l }
+#[tactic(auto, unfolding(model::specs::Trees::tree_of))]
+fn is_barred_at(tree: &TreeWords, row: u8, l: u8) -> bool
+    ensures { result ≡ barred_in (tree_of tree.now) row l }
 {
-    if l != 0 {
-        return false;
-    }
-    if row == 6 {
-        return true;
-    }
-    ticket_root != 0
-}
-
-// Draw, Watch and Raise: only at a ticket root, with a watched status of at most 65,535.
-fn good_ticket_place_at(
-    parents: &[u8; 64],
-    statuses: &[u64; 320],
-    domains: u32,
-    ticket_root: u32,
-    i: u16,
-    home: u8,
-    q: PlaceWords,
-) -> bool
-    requires domains_bound { (domains ≤ 64) × (i < 256) }
-    requires lower { Lower domains parents.now }
-    requires home_lt_domains { home < domains }
-    ensures { result ≡ ticket_place_in ticket_root (parents_in domains parents.now) statuses.now i home q }
-{
-    if ticket_root == 0 {
-        return false;
-    }
-    if 13 < q.row {
-        return false;
-    }
-    if q.word != 0 {
-        return false;
-    }
-    if q.domain != 0 {
-        return false;
-    }
-    if q.peer != 0 {
-        return false;
-    }
-    if q.row != 12 {
-        return true;
-    }
-    let r = crate::paths::record_at(parents, domains, i, home, 0);
-    let at = r as usize;
-    statuses[at] <= 65535
+    l == 0 && (row == CHECK || tree.ticket_root != 0)
 }
 
 // No tail at a ticket root, no counters at a queue root.
-pub(crate) fn good_root_at(ticket_root: u32, tail: u16, ticket: u16, grant: u16) -> bool
-    ensures { result ≡ root_in ticket_root tail ticket grant }
+#[tactic(auto, unfolding(model::specs::Trees::tree_of))]
+pub(crate) fn good_root_at(tree: &TreeWords, words: &State) -> bool
+    ensures { result ≡ root_in (tree_of tree.now) (get_or words.now.tails 0 0) words.now.ticket words.now.grant }
 {
-    if ticket_root == 0 {
-        return ticket == 0 && grant == 0;
+    if tree.ticket_root == 0 {
+        return words.ticket == 0 && words.grant == 0;
     }
-    tail == 0
+    words.tails[0] == 0
 }
 
 fn good_peer_at(owners: &[u8; 320], row: u8, l: u8, peer: u16) -> bool
@@ -162,156 +77,139 @@ fn good_peer_at(owners: &[u8; 320], row: u8, l: u8, peer: u16) -> bool
     peer == 0
 }
 
-fn good_domain_at(
-    parents: &[u8; 64],
-    owners: &[u8; 320],
-    domains: u32,
-    ticket_root: u32,
+// A thread of a tree that 4 to 9 and 16 do not refuse, as the tests of its place read it.
+#[derive(Clone, Copy)]
+struct Thread<'a> {
+    tree: &'a TreeWords,
+    number: u16,
     home: u8,
-    row: u8,
-    l: u8,
-    peer: u16,
-) -> bool
-    requires domains_bound { domains ≤ 64 }
-    requires lower { Lower domains parents.now }
-    requires home_lt_domains { home < domains }
-    ensures { result ≡ domain_in ticket_root (parents_in domains parents.now) owners.now home row l peer }
-{
-    if is_barred_at(ticket_root, row, l) {
-        return false;
-    }
-    if !meets_at(parents, domains, home, l) {
-        return false;
-    }
-    good_peer_at(owners, row, l, peer)
+    ghost accepted: { (tree_refusal (tree_of tree.now)).number ≡ 0 },
+    ghost there: { number < tree.now.threads },
+    ghost home_there: { home < tree.now.domains },
 }
 
-fn good_place_at(
-    parents: &[u8; 64],
-    owners: &[u8; 320],
-    statuses: &[u64; 320],
-    domains: u32,
-    ticket_root: u32,
-    i: u16,
-    home: u8,
-    q: PlaceWords,
-) -> bool
-    requires domains_bound { (domains ≤ 64) × (i < 256) }
-    requires lower { Lower domains parents.now }
-    requires home_lt_domains { home < domains }
-    ensures { result ≡ place_in ticket_root (parents_in domains parents.now) owners.now statuses.now i home q }
-{
-    let row = q.row;
-    let l = q.domain;
-    let peer = q.peer;
-    if 10 < row {
-        return good_ticket_place_at(parents, statuses, domains, ticket_root, i, home, q);
+impl Thread<'_> {
+    // Whether a domain is on the thread's path.
+    fn passes(&self, d: u8) -> bool
+        ensures { result ≡ meets 6 (tree_of self.now.tree.now) self.now.home d }
+    {
+        let tree = self.tree;
+        let mut c = self.home;
+        for _level in 0..6u32 {
+            if c == d {
+                return true;
+            }
+            if c == 0 {
+                return false;
+            }
+            c = tree.parents[usize::from(c)];
+        }
+        c == d
     }
-    if shapes::has_spare_word(row, q.word) {
-        return false;
+
+    // Whether the status of the thread's record at the root is at most 65,535.
+    fn is_status_low(&self, statuses: &[u64; 320]) -> bool
+        ensures { result ≡ leb (get_or statuses.now (own_record_in (tree_of self.now.tree.now) self.now.number self.now.home 0) 0) 65535 }
+    {
+        let tree = self.tree;
+        let r = crate::paths::record_at(&tree.parents, tree.domains, self.number, self.home, 0);
+        statuses[usize::from(r)] <= 65535
     }
-    if shapes::has_domain(row) {
-        return good_domain_at(parents, owners, domains, ticket_root, home, row, l, peer);
+
+    // Draw, Watch and Raise: only at a ticket root, with a watched status of at most 65,535.
+    #[tactic(auto, unfolding(crate::specs::OfRuns::Tables::ticket_place_in, model::specs::Trees::tree_of))]
+    fn has_good_ticket_place(&self, statuses: &[u64; 320], q: PlaceWords) -> bool
+        ensures { result ≡ ticket_place_in (tree_of self.now.tree.now) statuses.now self.now.number self.now.home q }
+    {
+        self.tree.ticket_root != 0
+            && q.row <= RAISE
+            && q.word == 0
+            && q.domain == 0
+            && q.peer == 0
+            && (q.row != WATCH || self.is_status_low(statuses))
     }
-    if l != 0 {
-        return false;
+
+    // A domain on the path where the row may be, and a record that fits the row.
+    fn has_good_domain(&self, owners: &[u8; 320], q: PlaceWords) -> bool
+        ensures { result ≡ domain_in (tree_of self.now.tree.now) owners.now self.now.home q.row q.domain q.peer }
+    {
+        !is_barred_at(self.tree, q.row, q.domain)
+            && self.passes(q.domain)
+            && good_peer_at(owners, q.row, q.domain, q.peer)
     }
-    peer == 0
+
+    #[tactic(auto, unfolding(crate::specs::OfRuns::Tables::place_in))]
+    fn has_good_place(&self, owners: &[u8; 320], statuses: &[u64; 320], q: PlaceWords) -> bool
+        ensures { result ≡ place_in (tree_of self.now.tree.now) owners.now statuses.now self.now.number self.now.home q }
+    {
+        if GRANT < q.row {
+            return self.has_good_ticket_place(statuses, q);
+        }
+        if shapes::has_spare_word(q.row, q.word) {
+            return false;
+        }
+        if shapes::has_domain(q.row) {
+            return self.has_good_domain(owners, q);
+        }
+        q.domain == 0 && q.peer == 0
+    }
 }
 
 // The row of the threads that rest.
-pub(crate) fn resting_row_of(ticket_root: u32, domains: u32) -> u8
-    ensures { result ≡ resting_row ticket_root domains }
+#[tactic(auto, unfolding(model::specs::Trees::tree_of))]
+pub(crate) fn resting_row_of(tree: &TreeWords) -> u8
+    ensures { result ≡ resting_row (tree_of tree.now) }
 {
-    if ticket_root == 0 {
-        return 4;
+    if tree.ticket_root != 0 && tree.domains == 1 {
+        return IDLE;
     }
-    if domains == 1 {
-        return 0;
-    }
-    4
+    WAIT
 }
 
 // The words of a thread: the next of its record, and its place if it is marked.
-fn good_thread_at<'s>(
-    parents: &[u8; 64],
+fn good_thread_at(
+    tree: &TreeWords,
     owners: &[u8; 320],
     marks: &[u8; 256],
-    nexts: &'s [u16; 320],
-    statuses: &'s [u64; 320],
-    rows: &'s [u8; 256],
-    domains: &'s [u8; 256],
-    peers: &'s [u16; 256],
-    words: &'s [u64; 256],
-    count: u32,
-    ticket_root: u32,
+    words: &State,
     i: u16,
 ) -> bool
-    requires count_bound { (count ≤ 64) × (i < 256) }
-    requires lower { Lower count parents.now }
-    requires i_bound { get_or owners.now i 0 < count }
-    requires q_value { let q = numbers_at (places_in rows.now domains.now peers.now words.now) i in
-        get_or marks.now i 0 ≡ 0 → place_in ticket_root (parents_in count parents.now) owners.now statuses.now i (get_or owners.now i 0) q ≡ true }
-    ensures { let q = numbers_at (places_in rows.now domains.now peers.now words.now) i in
-        result ≡ used_in ticket_root (parents_in count parents.now) owners.now statuses.now i q (get_or nexts.now i 0) }
+    requires accepted { (tree_refusal (tree_of tree.now)).number ≡ 0 }
+    requires thread_there { i < tree.now.threads }
+    requires homes_there { HomesThere tree.now owners.now }
+    requires marks_there { RestMarks tree.now.threads (resting_row (tree_of tree.now)) owners.now words.now.places marks.now }
+    ensures { result ≡ used_in (tree_of tree.now) owners.now words.now.statuses i (numbers_at words.now.places i) (get_or words.now.nexts i 0) }
 {
-    let at = i as usize;
+    let at = usize::from(i);
     let home = owners[at];
-    if !good_next_at(owners, home, nexts[at]) {
+    if !good_next_at(owners, home, words.nexts[at]) {
         return false;
     }
     if marks[at] == 0 {
         return true;
     }
-    let q = places::place_at(rows, domains, peers, words, at);
-    good_place_at(parents, owners, statuses, count, ticket_root, i, home, q)
+    let thread = Thread {
+        tree,
+        number: i,
+        home,
+    };
+    let q = places::place_at(&words.places, at);
+    thread.has_good_place(owners, &words.statuses, q)
 }
 
 // The words of each thread.
-pub(crate) fn good_threads<'s>(
-    parents: &[u8; 64],
-    owners: &[u8; 320],
-    count: u32,
-    threads: u32,
-    ticket_root: u32,
-    nexts: &'s [u16; 320],
-    statuses: &'s [u64; 320],
-    rows: &'s [u8; 256],
-    domains: &'s [u8; 256],
-    peers: &'s [u16; 256],
-    words: &'s [u64; 256],
-) -> bool
-    requires count_bound { (count ≤ 64) × (threads ≤ 256) }
-    requires lower { Lower count parents.now }
-    requires homes_there { HomesThere ticket_root count threads owners.now }
-    ensures { let t = parents_in count parents.now in
-        let places = places_in rows.now domains.now peers.now words.now in
-        result ≡ all_below threads (λ i. used_in ticket_root t owners.now statuses.now i (numbers_at places i) (get_or nexts.now i 0)) }
+#[tactic(auto, using(crate::proofs::Scanning::one_more, model::proofs::Tests::all_true))]
+pub(crate) fn good_threads(tree: &TreeWords, owners: &[u8; 320], words: &State) -> bool
+    requires accepted { (tree_refusal (tree_of tree.now)).number ≡ 0 }
+    requires homes_there { HomesThere tree.now owners.now }
+    ensures { result ≡ all_below tree.now.threads (λ i. used_in (tree_of tree.now) owners.now words.now.statuses i (numbers_at words.now.places i) (get_or words.now.nexts i 0)) }
 {
-    let row = resting_row_of(ticket_root, count);
-    let mut marks = [0u8; 256];
-    marks::mark_threads(
-        &mut marks, owners, threads, row, rows, domains, peers, words,
-    );
-    let mut i: u16 = 0;
-    while (i as u32) < threads {
-        if !good_thread_at(
-            parents,
-            owners,
-            &marks,
-            nexts,
-            statuses,
-            rows,
-            domains,
-            peers,
-            words,
-            count,
-            ticket_root,
-            i,
-        ) {
+    let resting = resting_row_of(tree);
+    let marks = marks::mark_threads(owners, tree.threads, resting, &words.places);
+    for i in 0..tree.threads as u16 {
+        if !good_thread_at(tree, owners, &marks, words, i) {
             return false;
         }
-        i += 1;
     }
     true
 }

@@ -1,118 +1,65 @@
 // Unused slots: one fold over each array, without an early exit, so that the compiler can test many numbers at once.
-ghost use Rattle.std.specs.Prelude.{◌≡◌, ◌≤◌, eqb, length};
-ghost use Rattle.refusals.specs.Arrays.{places_in, lent_state};
+ghost use Rattle.std.specs.Prelude.{◌≡◌, ◌≤◌, length};
 ghost use Rattle.refusals.specs.OfRuns.Tables.{zeros_between, places_clear, records_clear, clear_in};
 
-// 0 if all these numbers are 0; for 8-bit, 16-bit and 64-bit numbers.
-fn any_byte(values: &[u8], from: usize, to: usize) -> u8
+use model::{PlaceArrays, State, TreeWords};
+
+// Whether all these numbers are 0.
+// Kept: three functions, for 8-bit, 16-bit and 64-bit numbers: one generic function needs a trait with three impls, which is longer.
+#[tactic(auto, using(crate::proofs::of_runs::Folds::zeros_folded))]
+fn are_zero_bytes(values: &[u8], from: usize, to: usize) -> bool
     requires { (from ≤ to) × (to ≤ length values.now) }
-    ensures { eqb result 0 ≡ zeros_between from to values.now }
+    ensures { result ≡ zeros_between from to values.now }
 {
-    let mut all: u8 = 0;
-    let mut k = from;
-    while k < to {
-        all = all | values[k];
-        k += 1;
-    }
-    all
+    values[from..to].iter().fold(0, |all, x| all | *x) == 0
 }
 
-pub(crate) fn any_half(values: &[u16], from: usize, to: usize) -> u16
+#[tactic(auto, using(crate::proofs::of_runs::Folds::zeros_folded))]
+pub(crate) fn are_zero_halves(values: &[u16], from: usize, to: usize) -> bool
     requires { (from ≤ to) × (to ≤ length values.now) }
-    ensures { eqb result 0 ≡ zeros_between from to values.now }
+    ensures { result ≡ zeros_between from to values.now }
 {
-    let mut all: u16 = 0;
-    let mut k = from;
-    while k < to {
-        all = all | values[k];
-        k += 1;
-    }
-    all
+    values[from..to].iter().fold(0, |all, x| all | *x) == 0
 }
 
-pub(crate) fn any_word(values: &[u64], from: usize, to: usize) -> u64
+#[tactic(auto, using(crate::proofs::of_runs::Folds::zeros_folded))]
+pub(crate) fn are_zero_words(values: &[u64], from: usize, to: usize) -> bool
     requires { (from ≤ to) × (to ≤ length values.now) }
-    ensures { eqb result 0 ≡ zeros_between from to values.now }
+    ensures { result ≡ zeros_between from to values.now }
 {
-    let mut all: u64 = 0;
-    let mut k = from;
-    while k < to {
-        all = all | values[k];
-        k += 1;
-    }
-    all
+    values[from..to].iter().fold(0, |all, x| all | *x) == 0
 }
 
 // Whether the places of unused threads are fresh.
-fn are_places_clear<'s>(
-    threads: usize,
-    rows: &'s [u8; 256],
-    domains: &'s [u8; 256],
-    peers: &'s [u16; 256],
-    words: &'s [u64; 256],
-) -> bool
+fn are_places_clear(threads: usize, places: &PlaceArrays) -> bool
     requires { threads ≤ 256 }
-    ensures { result ≡ places_clear threads (places_in rows.now domains.now peers.now words.now) }
+    ensures { result ≡ places_clear threads places.now }
 {
-    if any_byte(rows, threads, 256) != 0 {
-        return false;
-    }
-    if any_byte(domains, threads, 256) != 0 {
-        return false;
-    }
-    if any_half(peers, threads, 256) != 0 {
-        return false;
-    }
-    any_word(words, threads, 256) == 0
+    are_zero_bytes(&places.rows, threads, 256)
+        && are_zero_bytes(&places.domains, threads, 256)
+        && are_zero_halves(&places.peers, threads, 256)
+        && are_zero_words(&places.words, threads, 256)
 }
 
 // Whether the tails of unused domains, the records of unused threads and domains, and record 256 are fresh.
-fn are_records_clear<'s>(
-    threads: usize,
-    domains: usize,
-    tails: &'s [u16; 64],
-    nexts: &'s [u16; 320],
-    statuses: &'s [u64; 320],
-) -> bool
+fn are_records_clear(threads: usize, domains: usize, words: &State) -> bool
     requires { (threads ≤ 256) × (domains ≤ 64) }
-    ensures { result ≡ records_clear threads domains tails.now nexts.now statuses.now }
+    ensures { result ≡ records_clear threads domains words.now.tails words.now.nexts words.now.statuses }
 {
     let past = 256 + domains;
-    if any_half(tails, domains, 64) != 0 {
-        return false;
-    }
-    if any_half(nexts, threads, 257) != 0 {
-        return false;
-    }
-    if any_half(nexts, past, 320) != 0 {
-        return false;
-    }
-    if any_word(statuses, threads, 257) != 0 {
-        return false;
-    }
-    any_word(statuses, past, 320) == 0
+    are_zero_halves(&words.tails, domains, 64)
+        && are_zero_halves(&words.nexts, threads, 257)
+        && are_zero_halves(&words.nexts, past, 320)
+        && are_zero_words(&words.statuses, threads, 257)
+        && are_zero_words(&words.statuses, past, 320)
 }
 
 // Whether all unused slots are fresh.
-pub(crate) fn is_clear<'s>(
-    threads: u32,
-    count: u32,
-    tails: &'s [u16; 64],
-    nexts: &'s [u16; 320],
-    statuses: &'s [u64; 320],
-    rows: &'s [u8; 256],
-    domains: &'s [u8; 256],
-    peers: &'s [u16; 256],
-    words: &'s [u64; 256],
-) -> bool
-    requires { (threads ≤ 256) × (count ≤ 64) }
-    ensures { let before = lent_state tails.now nexts.now statuses.now rows.now domains.now peers.now words.now 0 0 in
-        result ≡ clear_in threads count before }
+pub(crate) fn is_clear(tree: &TreeWords, words: &State) -> bool
+    requires { (tree.now.threads ≤ 256) × (tree.now.domains ≤ 64) }
+    ensures { result ≡ clear_in tree.now.threads tree.now.domains words.now }
 {
-    let m = threads as usize;
-    let n = count as usize;
-    if !are_places_clear(m, rows, domains, peers, words) {
-        return false;
-    }
-    are_records_clear(m, n, tails, nexts, statuses)
+    let threads = tree.threads as usize;
+    are_places_clear(threads, &words.places)
+        && are_records_clear(threads, tree.domains as usize, words)
 }

@@ -1,9 +1,0 @@
--- `refusals::of_runs::marks::row_mark` meets its contract: row and domain are 0, or they are compared.
-use Rattle.refusals.proofs.of_runs.Marking.{idle_mark, other_mark}
-use Rattle.refusals.proofs.of_runs.marks.row_mark.Goals as goal
-
-pub returns-then-both-eq0 : goal.returns-then-both-eq0
-returns-then-both-eq0 c = idle_mark c.args.resting c.args.home c.args.row c.args.domain c.if-both-eq0.true
-
-pub returns : goal.returns
-returns c = other_mark c.args.resting c.args.home c.args.row c.args.domain c.if-both-eq0.false
