@@ -15,6 +15,8 @@ use refusals::reasons::Refusal;
 pub(crate) struct AcceptedTree<'a> {
     pub(crate) words: &'a TreeWords,
     ghost accepted: { (tree_refusal (tree_of words.now)).number ≡ 0 },
+    ghost few_domains: { words.now.domains ≤ 64 },
+    ghost few_threads: { words.now.threads ≤ 256 },
 }
 
 // A word of an array. As the result of a call it is known to have 16 bits.

@@ -5,7 +5,6 @@ use native.Mathlib.Omega.{arith}
 use lib.ListN.{length-set}
 use Rattle.model.specs.Trees.{tree_of}
 use Rattle.model.proofs.Trees.Accepted.{accepted}
-use Rattle.model.proofs.Trees.Reading.{few_domains}
 use Rattle.bounds.specs.Answers.{capped}
 use Rattle.bounds_call.proofs.WaitWords.{passes_none, passes_more, passes_all}
 use Rattle.bounds_call.proofs.members.passes_of.Goals as goal
@@ -13,12 +12,6 @@ use Rattle.bounds_call.proofs.members.passes_of.Goals as goal
 pub loop-d-init : goal.loop-d-init
 unfolding tree_of
 loop-d-init c = let ok = c.args.tree.now.accepted in ((accepted (tree_of c.args.tree.now.words.now) ok).some_domain, passes_none _ ok, refl)
-
-pub bounds-counts-d : goal.bounds-counts-d
-bounds-counts-d c = let few = few_domains _ c.args.tree.now.accepted in omega (arith, c.loop-d.auto.d, c.loop-d-test.true)
-
-pub bounds-words-d : goal.bounds-words-d
-bounds-words-d c = let few = few_domains _ c.args.tree.now.accepted in omega (arith, c.loop-d.auto.d, c.loop-d-test.true)
 
 pub loop-d-preserved : goal.loop-d-preserved
 unfolding capped

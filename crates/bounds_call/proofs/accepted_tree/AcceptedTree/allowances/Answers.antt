@@ -15,9 +15,6 @@ pub loop-d-init : goal.loop-d-init
 unfolding tree_of
 loop-d-init c = let valid = accepted (tree_of c.args.self.now.words.now) c.args.self.now.accepted in (valid.some_domain, filled_none (tree_of c.args.self.now.words.now) valid.few_domains, refl)
 
-pub bounds-words-d : goal.bounds-words-d
-bounds-words-d c = let few = few_domains _ c.args.self.now.accepted in omega (arith, c.loop-d.auto.d, c.loop-d-test.true)
-
 pub loop-d-preserved : goal.loop-d-preserved
 unfolding capped
 loop-d-preserved c = let v = c.loop-d.invariant in

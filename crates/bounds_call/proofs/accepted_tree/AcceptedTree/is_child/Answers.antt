@@ -2,11 +2,8 @@
 use native.Mathlib.Omega.{arith}
 use borrow.Author.Tests.{eq-eqb, ne_eqb}
 use Rattle.model.specs.Trees.{is_child}
-use Rattle.model.proofs.Trees.Reading.{few_domains, parent_read}
+use Rattle.model.proofs.Trees.Reading.{parent_read}
 use Rattle.bounds_call.proofs.accepted_tree.AcceptedTree.is_child.Goals as goal
-
-pub bounds-self-c : goal.bounds-self-c
-bounds-self-c c = let few = few_domains _ c.args.self.now.accepted in omega (arith, c.requires)
 
 pub returns-then-c-ne0 : goal.returns-then-c-ne0
 unfolding is_child

@@ -3,7 +3,6 @@ use mathlib.Core.Path.{refl, sym, ◌∙◌}
 use native.Mathlib.Omega.{arith}
 use Rattle.model.specs.Scans.{largest_below}
 use Rattle.model.specs.Trees.{tree_of, is_leaf}
-use Rattle.model.proofs.Trees.Reading.{few_domains}
 use Rattle.bounds_call.proofs.Filling.{largest_next, largest_all}
 use Rattle.bounds_call.proofs.accepted_tree.AcceptedTree.largest_member.Goals.{then-is_child, else-is_child}
 use Rattle.bounds_call.proofs.accepted_tree.AcceptedTree.largest_member.Goals as goal
@@ -15,9 +14,6 @@ returns-then-not-has_child c = rw (sym c.has_child.ensures ∙ c.if-not-has_chil
 pub loop-c-init : goal.loop-c-init
 unfolding largest_below
 loop-c-init c = refl
-
-pub bounds-words-c : goal.bounds-words-c
-bounds-words-c c = let few = few_domains _ c.args.self.now.accepted in omega (arith, c.loop-c-test.true)
 
 pub loop-c-preserved : goal.loop-c-preserved
 loop-c-preserved c = elim c.if-is_child.branch [

@@ -1,16 +1,12 @@
 -- The levels so far and those above add up to the level.
 use native.Mathlib.Omega.{arith}
 use Rattle.model.specs.Trees.{level}
-use Rattle.model.proofs.Trees.Reading.{few_domains}
 use Rattle.bounds_call.proofs.RoundWords.{parent_below, level_few, level_up, level_done}
 use Rattle.bounds_call.proofs.accepted_tree.AcceptedTree.level.Goals as goal
 
 pub loop-x-init : goal.loop-x-init
 unfolding level
 loop-x-init c = (c.requires, omega arith)
-
-pub bounds-self-x : goal.bounds-self-x
-bounds-self-x c = let few = few_domains _ c.args.self.now.accepted in omega (arith, c.loop-x.invariant.0)
 
 pub overflow_add-n : goal.overflow_add-n
 overflow_add-n c = let few = level_few _ c.args.self.now.accepted _ c.requires in omega (arith, few, c.loop-x.invariant.1)

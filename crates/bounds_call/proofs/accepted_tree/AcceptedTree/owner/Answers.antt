@@ -1,12 +1,8 @@
 -- The owner of a thread's record is its home, that of a domain's record its parent.
 use native.Mathlib.Omega.{arith}
-use Rattle.model.proofs.Trees.Reading.{few_threads}
 use Rattle.bounds_call.proofs.WaitWords.{owner_thread, owner_domain, owner_nobody}
 use Rattle.bounds_call.proofs.accepted_tree.AcceptedTree.owner.Goals.{else-m-gt256-via-then-m-gt256+else-m-self-2, else-m-gt256-via-else-m-gt256}
 use Rattle.bounds_call.proofs.accepted_tree.AcceptedTree.owner.Goals as goal
-
-pub bounds-self-m : goal.bounds-self-m
-bounds-self-m c = let few = few_threads _ c.args.self.now.accepted in omega (arith, c.if-m-self.true)
 
 pub returns-then-m-self : goal.returns-then-m-self
 returns-then-m-self c = owner_thread _ c.args.self.now.accepted _ _ c.if-m-self.true c.from.ensures

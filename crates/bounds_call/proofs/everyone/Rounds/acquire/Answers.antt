@@ -8,12 +8,6 @@ use Rattle.bounds_call.proofs.WaitWords.{count_few}
 use Rattle.bounds_call.proofs.RoundWords.{counts_few, acquire_word}
 use Rattle.bounds_call.proofs.everyone.Rounds.acquire.Goals as goal
 
-pub offset_bounds-self-d : goal.offset_bounds-self-d
-offset_bounds-self-d c = let few = few_domains _ c.args.self.now.members.tree.accepted in omega (arith, c.requires)
-
-pub bounds-self-d : goal.bounds-self-d
-bounds-self-d c = let few = few_domains _ c.args.self.now.members.tree.accepted in omega (arith, c.requires)
-
 pub tenures_of-all-requires-clause-members_bound : goal.tenures_of-all-requires-clause-members_bound
 tenures_of-all-requires-clause-members_bound c = let few = few_domains _ c.args.self.now.members.tree.accepted in
     count_few _ c.args.self.now.members.tree.accepted _ _ _ (omega (arith, c.requires)) c.args.self.now.members.counted refl

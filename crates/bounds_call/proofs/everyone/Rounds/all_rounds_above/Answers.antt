@@ -1,15 +1,11 @@
 -- The words of the domains so far are the rounds above them.
 use mathlib.Core.Path.{refl}
 use native.Mathlib.Omega.{arith}
-use Rattle.model.proofs.Trees.Reading.{few_domains}
 use Rattle.bounds_call.proofs.RoundWords.{above_next, above_all}
 use Rattle.bounds_call.proofs.everyone.Rounds.all_rounds_above.Goals as goal
 
 pub loop-d-init : goal.loop-d-init
 loop-d-init c = record { above = λ c h. absurd (omega arith); room = refl }
-
-pub bounds-above-d : goal.bounds-above-d
-bounds-above-d c = let few = few_domains _ c.args.self.now.members.tree.accepted in omega (arith, c.loop-d-test.true)
 
 pub loop-d-preserved : goal.loop-d-preserved
 loop-d-preserved c = above_next _ c.args.self.now.members.tree.accepted _ _ _ _ refl c.loop-d-test.true c.loop-d.invariant c.rounds_above.ensures

@@ -1,12 +1,9 @@
 -- The home is the word that the tree reads.
 use native.Mathlib.Omega.{arith}
-use Rattle.model.proofs.Trees.Reading.{few_domains, few_threads}
+use Rattle.model.proofs.Trees.Reading.{few_domains}
 use Rattle.bounds.specs.Answers.{capped}
 use Rattle.bounds_call.proofs.RoundWords.{home_below, thread_word}
 use Rattle.bounds_call.proofs.everyone.Rounds.thread.Goals as goal
-
-pub bounds-self-i : goal.bounds-self-i
-bounds-self-i c = let few = few_threads _ c.args.self.now.members.tree.accepted in omega (arith, c.requires.i_lt_threads)
 
 pub level-level-requires : goal.level-level-requires
 level-level-requires c = home_below _ c.args.self.now.members.tree.accepted _ _ c.requires.i_lt_threads c.from-home.ensures
@@ -15,12 +12,6 @@ pub bounds-above-home : goal.bounds-above-home
 bounds-above-home c = let few = few_domains _ c.args.self.now.members.tree.accepted in
     let low = home_below _ c.args.self.now.members.tree.accepted _ _ c.requires.i_lt_threads c.from-home.ensures in
     omega arith
-
-pub offset_bounds-self-i : goal.offset_bounds-self-i
-offset_bounds-self-i c = let few = few_threads _ c.args.self.now.members.tree.accepted in omega (arith, c.requires.i_lt_threads)
-
-pub bounds-self-i-2 : goal.bounds-self-i-2
-bounds-self-i-2 c = let few = few_threads _ c.args.self.now.members.tree.accepted in omega (arith, c.requires.i_lt_threads)
 
 pub acquire-acquired-requires : goal.acquire-acquired-requires
 acquire-acquired-requires c = home_below _ c.args.self.now.members.tree.accepted _ _ c.requires.i_lt_threads c.from-home.ensures

@@ -9,28 +9,10 @@ use Rattle.bounds_call.proofs.members.Members.added_above.Goals as goal
 pub returns-then-d-eq0 : goal.returns-then-d-eq0
 returns-then-d-eq0 c = above_none _ c.args.self.now.tree.accepted _ c.if-d-eq0.true
 
-pub bounds-self-d : goal.bounds-self-d
-bounds-self-d c = let few = few_domains _ c.args.self.now.tree.accepted in omega (arith, c.requires.d_lt_domains)
-
-pub overflow_add-d : goal.overflow_add-d
-overflow_add-d c = let few = few_domains _ c.args.self.now.tree.accepted in omega (arith, c.requires.d_lt_domains)
-
-pub offset_bounds-self-d : goal.offset_bounds-self-d
-offset_bounds-self-d c = let few = few_domains _ c.args.self.now.tree.accepted in omega (arith, c.requires.d_lt_domains)
-
-pub bounds-self-d-2 : goal.bounds-self-d-2
-bounds-self-d-2 c = let few = few_domains _ c.args.self.now.tree.accepted in omega (arith, c.requires.d_lt_domains)
-
 pub bounds-above-parent : goal.bounds-above-parent
 bounds-above-parent c = let few = few_domains _ c.args.self.now.tree.accepted in
     let up = parent_small _ c.args.self.now.tree.accepted _ _ (omega (arith, c.if-d-eq0.false)) c.requires.d_lt_domains c.from-parent.ensures in
     omega (arith, up.0, c.requires.d_lt_domains)
-
-pub offset_bounds-self-d-2 : goal.offset_bounds-self-d-2
-offset_bounds-self-d-2 c = let few = few_domains _ c.args.self.now.tree.accepted in omega (arith, c.requires.d_lt_domains)
-
-pub bounds-self-d-3 : goal.bounds-self-d-3
-bounds-self-d-3 c = let few = few_domains _ c.args.self.now.tree.accepted in omega (arith, c.requires.d_lt_domains)
 
 pub tenures_of-requires-clause-members_bound : goal.tenures_of-requires-clause-members_bound
 tenures_of-requires-clause-members_bound c = let few = few_domains _ c.args.self.now.tree.accepted in

@@ -1,7 +1,7 @@
 -- W of the threads so far.
 use mathlib.Core.Path.{refl}
 use native.Mathlib.Omega.{arith}
-use Rattle.model.proofs.Trees.Reading.{few_domains, few_threads}
+use Rattle.model.proofs.Trees.Reading.{few_domains}
 use Rattle.bounds.specs.Answers.{capped}
 use Rattle.bounds_call.proofs.WaitWords.{home_small, thread_wait, waits_none, waits_next, waits_all}
 use Rattle.bounds_call.proofs.members.Members.waits.Goals as goal
@@ -9,20 +9,11 @@ use Rattle.bounds_call.proofs.members.Members.waits.Goals as goal
 pub loop-i-init : goal.loop-i-init
 loop-i-init c = waits_none _ c.args.self.now.tree.accepted
 
-pub bounds-self-i : goal.bounds-self-i
-bounds-self-i c = let few = few_threads _ c.args.self.now.tree.accepted in omega (arith, c.loop-i-test.true)
-
-pub bounds-self-i-in-loop-i : goal.bounds-self-i-in-loop-i
-bounds-self-i-in-loop-i c = let few = few_threads _ c.args.self.now.tree.accepted in omega (arith, c.loop-i-test.true)
-
 pub bounds-above-home : goal.bounds-above-home
 bounds-above-home c =
     let home = home_small _ c.args.self.now.tree.accepted _ _ c.loop-i-test.true c.from-home.ensures in
     let few = few_domains _ c.args.self.now.tree.accepted in
     omega (arith, home.0)
-
-pub bounds-waits-i : goal.bounds-waits-i
-bounds-waits-i c = let few = few_threads _ c.args.self.now.tree.accepted in omega (arith, c.loop-i-test.true)
 
 pub loop-i-preserved : goal.loop-i-preserved
 unfolding capped
