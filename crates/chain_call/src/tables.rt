@@ -91,6 +91,7 @@ fn joins(row: u8) -> bool
 }
 
 // The domain from which a thread acts down its path, given its place and the status of its record there; 256 if it acts nowhere.
+// Kept: the walk up a path compares each domain with this number; an Option would be unpacked there again.
 fn acts_from(q: PlaceWords, v: u64) -> u16
     ensures { result ≡ acts_from q v }
 {
