@@ -1,5 +1,7 @@
 -- Sums and products of capped numbers.
-use mathlib.Core.Path.{◌≡◌, ap, ◌∙◌}
+use mathlib.Core.Path.{◌≡◌, refl, ap, ◌∙◌}
+use mathlib.Core.Bool.{Bool, true, false, cond}
+use Rattle.std.specs.Int.{from_bool}
 use Prim.Native.Nat.{ℕ, zero, suc, ◌+◌, ◌*◌}
 use native.Mathlib.Omega.{arith}
 use native.Mathlib.Nat.{mul_comm}
@@ -27,3 +29,8 @@ capped_right (suc a) b = capped_times (suc a) b (omega arith)
 
 pub capped_first : (a b : ℕ) → capped (capped a * b) ≡ capped (a * b)
 capped_first a b = ap capped (mul_comm (capped a) b) ∙ capped_right b a ∙ ap capped (mul_comm b a)
+
+-- a Boolean as a number
+pub one_if : (b : Bool) → from_bool b ≡ cond b 1 0
+one_if true = refl
+one_if false = refl

@@ -2,9 +2,9 @@
 use mathlib.Core.Path.{◌≡◌, refl, sym, ap, ◌∙◌}
 use mathlib.Core.Bool.{Bool, true, false, cond}
 use mathlib.Core.List.{List, [], ◌∷◌}
-use Prim.Native.Nat.{ℕ, zero, suc, ◌+◌, ◌*◌, ◌/◌, ◌≤◌, ◌<◌, max}
+use Prim.Native.Nat.{ℕ, zero, suc, ◌+◌, ◌*◌, ◌≤◌, ◌<◌, max}
 use native.Mathlib.Omega.{arith}
-use native.Mathlib.Nat.{le-div_iff_mul-le, div-lt_iff_lt-mul, mul_comm, le-mul_of_pos_right}
+use native.Mathlib.Nat.{mul_comm, le-mul_of_pos_right}
 use lib.Dec.{eqb, ltb}
 use borrow.Author.Tests.{eqb-true, eqb-false, ltb-true, ltb-false}
 use lib.ListN.{get_or, length, set, replicate}
@@ -25,17 +25,6 @@ capped_small n h = omega arith
 pub capped_large : (n : ℕ) → 18446744073709551615 ≤ n → capped n ≡ 18446744073709551615
 unfolding capped
 capped_large n h = omega arith
-
--- a product, tested by a quotient
-pub product_none : (h n : ℕ) → h ≡ 0 → 0 ≡ capped (h * n)
-unfolding capped
-product_none h n e = rw e (omega arith)
-
-pub product_fits : (h n : ℕ) → 0 < h → n ≤ 18446744073709551615 / h → h * n ≤ 18446744073709551615
-product_fits h n p l = rw (mul_comm h n) ((le-div_iff_mul-le p).0 l)
-
-pub product_large : (h n : ℕ) → 0 < h → 18446744073709551615 / h < n → 18446744073709551615 < h * n
-product_large h n p l = rw (mul_comm h n) ((div-lt_iff_lt-mul p).0 l)
 
 -- multiplying by a capped number and capping gives the capped product
 pub capped_times : (h n : ℕ) → 1 ≤ h → capped (h * capped n) ≡ capped (h * n)

@@ -5,4 +5,4 @@ pub mod Capped
 pub mod WaitSums
 pub mod WaitWords
 pub mod RoundWords
-pub mod RoundAnswers
+pub mod Answers

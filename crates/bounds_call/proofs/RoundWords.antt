@@ -17,7 +17,6 @@ use Rattle.model.proofs.Lists.{same_or}
 use Rattle.model.proofs.Trees.Accepted.{Accepted, accepted}
 use Rattle.model.proofs.Trees.Paths.{depth_child, depth_zero}
 use Rattle.model.proofs.Trees.Reading.{home_read, parent_read, few_domains, few_threads}
-use Rattle.refusals.proofs.Reading.{threshold_in}
 use Rattle.bounds.specs.StarvationFreedom.Bounds.{members, others_passes, effective_threshold, levels, entry_rounds, tenure_length, tenures_for, link_rounds, standing_rounds, acquire_rounds, acquire_bound, release_bound, everyone_bound}
 use Rattle.bounds.proofs.starvation_freedom.Quotients.{length_some}
 use Rattle.bounds.proofs.starvation_freedom.Bounds.{above_rounds, acquire_at}
@@ -76,13 +75,12 @@ module _ (w : TreeWords) (ok : (tree_refusal (tree_of w)).number ≡ 0) where
   length_root d s z = (rw (eq-eqb d 0 z) refl, omega arith)
 
   pub length_inner :
-      (d n h r : ℕ) (counts : List ℕ) → Counted t counts → d ≢ 0 → d < w.domains → h ≡ get_or w.thresholds d 0 → n ≡ get_or counts d 0 →
-      (r ≡ cond (ltb 1 n) h 1) × (h < 65536) → (r ≡ tenure_length t d) × (0 < r)
+      (d n h r : ℕ) (counts : List ℕ) → Counted t counts → d ≢ 0 → d < w.domains → h ≡ t.threshold d → n ≡ get_or counts d 0 →
+      r ≡ cond (ltb 1 n) h 1 → (r ≡ tenure_length t d) × (0 < r)
   unfolding tenure_length effective_threshold tree_of
   length_inner d n h r counts counted z s e f g =
       let few = few_domains w ok in
-      let threshold = threshold_in w.domains w.threads w.parents w.thresholds w.homes d (omega arith) s (rw e at g.1) in
-      let is : r ≡ tenure_length t d = g.0 ∙ rw (ne_eqb d 0 z, e, ← threshold, f, counted.counted d (omega arith)) refl in
+      let is : r ≡ tenure_length t d = g ∙ rw (ne_eqb d 0 z, e, f, counted.counted d (omega arith)) refl in
       let some = length_some t valid d s in
       (is, omega arith)
 

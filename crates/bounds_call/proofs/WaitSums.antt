@@ -1,49 +1,51 @@
 -- Sums over the members of a domain, as the call for wait bounds keeps them: from the first record up, from the last one down, and without one member.
 use mathlib.Core.Path.{◌≡◌, refl, sym, ap, ◌∙◌}
 use mathlib.Core.Logic.{◌≢◌}
-use mathlib.Core.Bool.{Bool, true, false, ◌&&◌, not, cond}
+use mathlib.Core.Bool.{Bool, true, false, ◌&&◌, not, cond, false≢true}
+use Rattle.std.specs.Prelude.{Option, None, Some}
 use mathlib.Core.List.{List, [], ◌∷◌}
 use Prim.Native.Nat.{ℕ, zero, suc, ◌+◌, ◌-◌, ◌≤◌, ◌<◌}
 use native.Mathlib.Omega.{arith}
-use lib.Dec.{eqb, ltb}
+use lib.Dec.{eqb}
 use lib.ListN.{get_or, length, set, replicate, length-set, length-append}
 use lib.Seq.{get_or-set_same, get_or-set_other}
-use borrow.Author.Tests.{eqb-true, eq-eqb, ne_eqb, lt-ltb, le-ltb}
+use borrow.Author.Tests.{eqb-true, eq-eqb, ne_eqb}
 use Rattle.model.specs.Scans.{filter_below}
 use Rattle.model.specs.Trees.{Tree, is_member}
-use Rattle.model.proofs.Lists.{same_or, less_or}
+use Rattle.model.proofs.Lists.{same_or}
 use Rattle.model.proofs.Laws.Counters.{zeros}
 use Rattle.bounds.specs.StarvationFreedom.Bounds.{members}
 use Rattle.bounds.specs.LongestWait.Bounds.{sum_below, passes, others_passes}
 use Rattle.bounds.specs.Answers.{capped}
-use Rattle.bounds_call.specs.Waits.{added, sum_of, weight, Owned, Counted, Before, Others}
+use Rattle.bounds_call.specs.Waits.{is_owner, weight, Owned, Counted, Before, Others}
 use Rattle.bounds_call.proofs.Filling.{capped_small}
 use Rattle.bounds_call.proofs.Capped.{capped_sum}
 
 -- ONE MORE NUMBER
-pub added_room : (ws : List ℕ) (at x : ℕ) → length (added ws at x) ≡ length ws
-unfolding added
-added_room ws at x = less_or at 64 _ (λ h. rw (lt-ltb at 64 h) (length-set ws at _)) (λ h. rw (le-ltb at 64 h) refl)
+-- the sums with a number added for the owner of a record, capped; no change without an owner
+abbrev pub added : (sums : List ℕ) → (owner : Option ℕ) → (number : ℕ) → List ℕ
+added ws None x = ws
+added ws (Some o) x = set ws o (capped (get_or ws o 0 + x))
 
--- a domain's sum after a number is added to the sum of domain o
+pub added_room : (ws : List ℕ) (o : Option ℕ) (x : ℕ) → length (added ws o x) ≡ length ws
+added_room ws None x = refl
+added_room ws (Some o) x = length-set ws o _
+
+kept : (s : ℕ) → capped s ≡ capped (s + 0)
+kept s = ap capped (let y : s ≡ s + 0 = omega arith in y)
+
+-- a domain's sum after a number is added to the sum of the owner
 pub added_at :
-    (ws : List ℕ) (o x d s n : ℕ) → length ws ≡ 64 → d < 64 → get_or ws d 0 ≡ capped s → (eqb o d ≡ true → x ≡ capped n) →
-    get_or (added ws o x) d 0 ≡ capped (s + cond (eqb o d) n 0)
-unfolding added
-added_at ws o x d s n l h e f =
+    (ws : List ℕ) (o : Option ℕ) (x d s n : ℕ) → length ws ≡ 64 → d < 64 → get_or ws d 0 ≡ capped s → (is_owner o d ≡ true → x ≡ capped n) →
+    get_or (added ws o x) d 0 ≡ capped (s + cond (is_owner o d) n 0)
+added_at ws None x d s n l h e f = e ∙ kept s
+added_at ws (Some o) x d s n l h e f =
     same_or o d _
-    (λ z. rw (eq-eqb o d z, lt-ltb o 64 (omega arith)) (ap (λ k. get_or (set ws o (capped (get_or ws o 0 + x))) k 0) (sym z) ∙ get_or-set_same ws o (capped (get_or ws o 0 + x)) 0 (omega arith) ∙ here z))
-    (λ z. rw (ne_eqb o d z) (elsewhere z))
+    (λ z. rw (eq-eqb o d z) (ap (λ k. get_or (set ws o (capped (get_or ws o 0 + x))) k 0) (sym z) ∙ get_or-set_same ws o (capped (get_or ws o 0 + x)) 0 (omega arith) ∙ here z))
+    (λ z. rw (ne_eqb o d z) (get_or-set_other ws o d (capped (get_or ws o 0 + x)) 0 (λ y. z (sym y)) ∙ e ∙ kept s))
   where
     here : o ≡ d → capped (get_or ws o 0 + x) ≡ capped (s + n)
     here z = rw (z, e, f (eq-eqb o d z)) (capped_sum s n)
-
-    kept : capped s ≡ capped (s + 0)
-    kept = ap capped (let y : s ≡ s + 0 = omega arith in y)
-
-    elsewhere : (o ≡ d → ⊥) → get_or (cond (ltb o 64) (set ws o (capped (get_or ws o 0 + x))) ws) d 0 ≡ capped (s + 0)
-    elsewhere z =
-        less_or o 64 _ (λ b. rw (lt-ltb o 64 b) (get_or-set_other ws o d (capped (get_or ws o 0 + x)) 0 (λ y. z (sym y)) ∙ e ∙ kept)) (λ b. rw (le-ltb o 64 b) (e ∙ kept))
 
 -- FROM THE FIRST RECORD UP
 pub record Summed (t : Tree) (f : ℕ → ℕ) (m : ℕ) (ws : List ℕ) : Type 0 where
@@ -55,7 +57,7 @@ unfolding sum_below
 summed_none t f = record { sums = λ d h. zeros 64 d ∙ sym (capped_small 0 (omega arith)); room = refl }
 
 pub summed_next :
-    (t : Tree) (f : ℕ → ℕ) (m n o x : ℕ) (ws after : List ℕ) → n ≡ m + 1 → Summed t f m ws → Owned t m o →
+    (t : Tree) (f : ℕ → ℕ) (m n : ℕ) (o : Option ℕ) (x : ℕ) (ws after : List ℕ) → n ≡ m + 1 → Summed t f m ws → Owned t m o →
     ((d : ℕ) → d < 64 → is_member t d m ≡ true → x ≡ capped (f m)) → after ≡ added ws o x → Summed t f n after
 unfolding sum_below
 summed_next t f m n o x ws after z summed owned e g =
@@ -89,6 +91,11 @@ pub few_members : (t : Tree) (d : ℕ) → members t d ≤ 320
 unfolding members
 few_members t d = count_small 320 (is_member t d)
 
+-- so far no domain has more members than there are records
+pub summed_few : (t : Tree) (m d : ℕ) (ws : List ℕ) → Summed t (λ q. 1) m ws → d < 64 → get_or ws d 0 ≤ m
+unfolding capped
+summed_few t m d ws summed h = let s = summed.sums d h in let c = count_sum m (is_member t d) in let k = count_small m (is_member t d) in omega arith
+
 pub counted_all : (t : Tree) (n : ℕ) (ws : List ℕ) → n ≡ 320 → Summed t (λ q. 1) n ws → Counted t ws
 unfolding members
 counted_all t n ws z summed =
@@ -106,20 +113,31 @@ pub before_none : (t : Tree) → BeforeSoFar t 0 (replicate 320 0)
 before_none t = record { lower = λ d q h b e. absurd (omega arith); room = refl }
 
 -- the owner of a member's record is its domain
-owner_is : (t : Tree) (m o d : ℕ) → Owned t m o → d < 64 → is_member t d m ≡ true → o ≡ d
+owner_is : (t : Tree) (m o d : ℕ) → Owned t m (Some o) → d < 64 → is_member t d m ≡ true → o ≡ d
 owner_is t m o d owned h e = eqb-true o d (sym (owned.owns d h) ∙ e)
 
+-- a record without an owner is no member's
+pub no_owner : (t : Tree) (m d : ℕ) → Owned t m None → d < 64 → is_member t d m ≡ true → ⊥
+no_owner t m d owned h e = false≢true (sym (owned.owns d h) ∙ e)
+
 pub before_next :
-    (t : Tree) (m n o x : ℕ) (before sums : List ℕ) → n ≡ m + 1 → m < 320 → BeforeSoFar t m before → Summed t (passes t) m sums → Owned t m o → x ≡ sum_of sums o →
+    (t : Tree) (m n o x : ℕ) (before sums : List ℕ) → n ≡ m + 1 → m < 320 → BeforeSoFar t m before → Summed t (passes t) m sums → Owned t m (Some o) → x ≡ get_or sums o 0 →
     BeforeSoFar t n (set before m x)
-unfolding weight sum_of
+unfolding weight
 before_next t m n o x before sums z s so_far summed owned e =
     record {
       lower = λ d q h b k.
           same_or q m _
-          (λ y. rw y (get_or-set_same before m x 0 (omega (arith, so_far.room)) ∙ e ∙ ap (sum_of sums) (owner_is t m o d owned h (rw y at k)) ∙ rw (lt-ltb d 64 h) (summed.sums d h)))
+          (λ y. rw y (get_or-set_same before m x 0 (omega (arith, so_far.room)) ∙ e ∙ ap (λ c. get_or sums c 0) (owner_is t m o d owned h (rw y at k)) ∙ summed.sums d h))
           (λ y. get_or-set_other before m q x 0 y ∙ so_far.lower d q h (omega arith) k);
       room = length-set before m x ∙ so_far.room;
+    }
+
+pub before_skip : (t : Tree) (m n : ℕ) (before : List ℕ) → n ≡ m + 1 → BeforeSoFar t m before → Owned t m None → BeforeSoFar t n before
+before_skip t m n before z so_far owned =
+    record {
+      lower = λ d q h b k. same_or q m _ (λ y. absurd (no_owner t m d owned h (rw y at k))) (λ y. so_far.lower d q h (omega arith) k);
+      room = so_far.room;
     }
 
 pub before_all : (t : Tree) (n : ℕ) (before : List ℕ) → n ≡ 320 → BeforeSoFar t n before → Before t before
@@ -153,7 +171,7 @@ rest_none t = record { rests = λ d h. zeros 64 d ∙ sym (none (sum_below 320 (
     none a = let z : a - a ≡ 0 = omega arith in rw z (capped_small 0 (omega arith))
 
 pub rest_down :
-    (t : Tree) (m k o x : ℕ) (ws after : List ℕ) → m ≡ suc k → k < 320 → Rest t m ws → Owned t k o →
+    (t : Tree) (m k : ℕ) (o : Option ℕ) (x : ℕ) (ws after : List ℕ) → m ≡ suc k → k < 320 → Rest t m ws → Owned t k o →
     ((d : ℕ) → d < 64 → is_member t d k ≡ true → x ≡ capped (passes t k)) → after ≡ added ws o x → Rest t k after
 unfolding weight
 rest_down t m k o x ws after z s rest owned e g =
@@ -216,9 +234,8 @@ pub others_none : (t : Tree) → OthersSoFar t 320 (replicate 320 0)
 others_none t = record { others_of = λ d q h a b e. absurd (omega arith); room = refl }
 
 pub others_down :
-    (t : Tree) (m k o x y : ℕ) (others before ws : List ℕ) → m ≡ suc k → k < 320 → OthersSoFar t m others → Before t before → Rest t m ws → Owned t k o →
-    y ≡ sum_of ws o → x ≡ capped (get_or before k 0 + y) → OthersSoFar t k (set others k x)
-unfolding sum_of
+    (t : Tree) (m k o x y : ℕ) (others before ws : List ℕ) → m ≡ suc k → k < 320 → OthersSoFar t m others → Before t before → Rest t m ws → Owned t k (Some o) →
+    y ≡ get_or ws o 0 → x ≡ capped (get_or before k 0 + y) → OthersSoFar t k (set others k x)
 others_down t m k o x y others before ws z s so_far lower rest owned e g =
     record {
       others_of = λ d q h a b j.
@@ -233,7 +250,14 @@ others_down t m k o x y others before ws z s so_far lower rest owned e g =
     here : (d : ℕ) → d < 64 → is_member t d k ≡ true → o ≡ d → capped (get_or before k 0 + y) ≡ capped (others_passes t d k)
     here d h j own =
         let r : get_or ws d 0 ≡ capped (rest_sum t d (suc k)) = rw z at (rest.rests d h) in
-        rw (lower.lower d k h s j, e, own, lt-ltb d 64 h, r) (capped_sum (sum_below k (weight t d)) (rest_sum t d (suc k)) ∙ ap capped (sym (others_split t d k s)))
+        rw (lower.lower d k h s j, e, own, r) (capped_sum (sum_below k (weight t d)) (rest_sum t d (suc k)) ∙ ap capped (sym (others_split t d k s)))
+
+pub others_skip : (t : Tree) (m k : ℕ) (others : List ℕ) → m ≡ suc k → OthersSoFar t m others → Owned t k None → OthersSoFar t k others
+others_skip t m k others z so_far owned =
+    record {
+      others_of = λ d q h a b j. same_or q k _ (λ v. absurd (no_owner t k d owned h (rw v at j))) (λ v. so_far.others_of d q h (omega arith) b j);
+      room = so_far.room;
+    }
 
 pub others_all : (t : Tree) (m : ℕ) (others : List ℕ) → m ≡ 0 → OthersSoFar t m others → Others t others
 others_all t m others z so_far = record { others = λ d q h b e. so_far.others_of d q h (omega arith) b e; room = so_far.room }

@@ -1,11 +1,11 @@
 -- The words of the call for wait bounds, given the words of its tree: owners of records, passes, what the domains above add, and W.
 use mathlib.Core.Path.{◌≡◌, refl, sym, ap, ◌∙◌}
 use mathlib.Core.Logic.{◌≢◌}
-use mathlib.Core.Bool.{true, false, cond}
+use mathlib.Core.Bool.{Bool, true, false, cond, false≢true}
 use mathlib.Core.List.{List}
 use Prim.Native.Nat.{ℕ, suc, ◌+◌, ◌*◌, ◌-◌, ◌/◌, ◌≤◌, ◌<◌}
 use native.Mathlib.Omega.{arith}
-use lib.Dec.{eqb, ltb}
+use lib.Dec.{ltb}
 use lib.ListN.{get_or, length, set, replicate, length-set}
 use lib.Seq.{get_or-set_same, get_or-set_other}
 use borrow.Author.Tests.{eq-eqb, ne_eqb, lt-ltb, le-ltb}
@@ -19,23 +19,29 @@ use Rattle.model.proofs.Trees.Accepted.{Accepted, accepted}
 use Rattle.model.proofs.Trees.Records.{Member, a_thread, a_domain, member_facts}
 use Rattle.model.proofs.Trees.Allowances.{thread_allowance}
 use Rattle.model.proofs.Trees.Reading.{home_read, parent_read, few_domains, few_threads}
-use Rattle.refusals.specs.declared.Refusal.{Refusal}
-use Rattle.refusals.specs.Arrays.{parents_in, refusal_words}
 use Rattle.refusals.proofs.Reading.{threshold_in}
 use Rattle.bounds.specs.StarvationFreedom.Bounds.{members}
 use Rattle.bounds.specs.LongestWait.Bounds.{effective_threshold, effective, passes, others_passes, tenures_for_all, member_wait, wait_bound}
 use Rattle.bounds.proofs.starvation_freedom.Effective.{effective_accepted}
 use Rattle.bounds.proofs.longest_wait.Waits.{above_wait, wait_at}
-use Rattle.bounds.specs.Answers.{capped, words_from, wait_word, wait_bounds_answer, wait_bounds_left}
+use Rattle.bounds.specs.Answers.{capped, words_from, wait_word}
 use Rattle.bounds_call.specs.Arrays.{Allowed}
 use Rattle.bounds_call.specs.Waits.{word_of, added_above, Owned, Counted, Others, Above}
+use Rattle.std.specs.Prelude.{Option, None, Some}
+use Rattle.refusals.specs.Lowest.{or_end}
 use Rattle.bounds_call.proofs.Filling.{capped_small, listed, Filled, filled_none, filled_next, member_word, next_word}
 use Rattle.bounds_call.proofs.Capped.{capped_sum, capped_right}
 use Rattle.bounds_call.proofs.WaitSums.{few_members}
 
--- OWNERS
-no_owner : (d : ℕ) → d < 64 → eqb 64 d ≡ false
-no_owner d h = ne_eqb 64 d (λ z. absurd (omega arith))
+some_same : (a b : ℕ) → ◌≡◌ {A = Option ℕ} (Some a) (Some b) → a ≡ b
+some_same a b e = ap (λ o. or_end o a) e
+
+none_some : (b : ℕ) → ◌≡◌ {A = Option ℕ} None (Some b) → ⊥
+none_some b e = false≢true (ap is_some e)
+  where
+    is_some : Option ℕ → Bool
+    is_some None = false
+    is_some (Some x) = true
 
 module _ (w : TreeWords) (ok : (tree_refusal (tree_of w)).number ≡ 0) where
   abbrev t : Tree
@@ -44,39 +50,44 @@ module _ (w : TreeWords) (ok : (tree_refusal (tree_of w)).number ≡ 0) where
   valid : Accepted t
   valid = accepted t ok
 
-  pub owner_thread : (m o : ℕ) → m < 256 → m < w.threads → o ≡ get_or w.homes m 0 → Owned t m o
+  -- THRESHOLDS
+  pub threshold_read : (d h : ℕ) → 0 < d → d < w.domains → h ≡ get_or w.thresholds d 0 → h < 65536 → h ≡ t.threshold d
+  unfolding tree_of
+  threshold_read d h p s e f = e ∙ sym (threshold_in w.domains w.threads w.parents w.thresholds w.homes d p s (omega (arith, e)))
+
+  pub threshold_some : (d h : ℕ) → 0 < d → d < w.domains → h ≡ t.threshold d → 0 < h
+  unfolding tree_of
+  threshold_some d h p s e = let some = valid.threshold_some d p s in omega (arith, e)
+
+  -- OWNERS
+  pub owner_thread : (m o : ℕ) → m < w.threads → o ≡ get_or w.homes m 0 → Owned t m (Some o)
   unfolding is_member tree_of
-  owner_thread m o b s e =
+  owner_thread m o s e =
+      let b : m < 256 = omega (arith, valid.few_threads) in
       let home = home_read w m s in
       let real = valid.home_real m s in
       let few = few_domains w ok in
-      record { owns = λ d h. rw (lt-ltb m 256 b, lt-ltb m w.threads s, e, ← home) refl; within = omega arith }
+      record { owns = λ d h. rw (lt-ltb m 256 b, lt-ltb m w.threads s, e, ← home) refl; within = λ d z. let y = some_same o d z in omega arith }
 
-  pub owner_no_thread : (m : ℕ) → m < 256 → w.threads ≤ m → Owned t m 64
-  unfolding is_member tree_of
-  owner_no_thread m b s = record { owns = λ d h. rw (lt-ltb m 256 b, le-ltb m w.threads s) (sym (no_owner d h)); within = omega arith }
-
-  pub owner_root : (m c : ℕ) → 256 ≤ m → c ≡ m - 256 → c ≡ 0 → Owned t m 64
+  pub owner_domain : (m o : ℕ) → 256 < m → m - 256 < w.domains → o ≡ get_or w.parents (m - 256) 0 → Owned t m (Some o)
   unfolding is_member is_child tree_of
-  owner_root m c b e z =
-      let y : m - 256 ≡ 0 = omega arith in
-      let some = valid.some_domain in
-      record { owns = λ d h. rw (le-ltb m 256 b, y, lt-ltb 0 w.domains some) (sym (no_owner d h)); within = omega arith }
-
-  pub owner_domain : (m c o : ℕ) → 256 ≤ m → c ≡ m - 256 → c ≢ 0 → c < w.domains → o ≡ get_or w.parents c 0 → Owned t m o
-  unfolding is_member is_child tree_of
-  owner_domain m c o b e n s f =
-      let y : m - 256 ≡ c = omega arith in
-      let up = parent_read w c (omega arith) s in
-      let low = valid.parent_lower c (omega arith) s in
+  owner_domain m o b s f =
+      let up = parent_read w (m - 256) (omega arith) s in
+      let low = valid.parent_lower (m - 256) (omega arith) s in
       let few = few_domains w ok in
-      record { owns = λ d h. rw (le-ltb m 256 b, y, lt-ltb c w.domains s, ne_eqb c 0 n, f, ← up) refl; within = omega arith }
+      record { owns = λ d h. rw (le-ltb m 256 (omega arith), lt-ltb (m - 256) w.domains s, ne_eqb (m - 256) 0 (λ z. absurd (omega arith)), f, ← up) refl; within = λ d z. let y = some_same o d z in omega arith }
 
-  pub owner_no_domain : (m c : ℕ) → 256 ≤ m → c ≡ m - 256 → w.domains ≤ c → Owned t m 64
+  pub owner_nobody : (m : ℕ) → w.threads ≤ m → (256 < m → w.domains ≤ m - 256) → Owned t m None
   unfolding is_member is_child tree_of
-  owner_no_domain m c b e s =
-      let y : m - 256 ≡ c = omega arith in
-      record { owns = λ d h. rw (le-ltb m 256 b, y, le-ltb c w.domains s) (sym (no_owner d h)); within = omega arith }
+  owner_nobody m s n = record { owns = λ d h. nobody d; within = λ d z. absurd (none_some d z) }
+    where
+      nobody : (d : ℕ) → is_member t d m ≡ false
+      nobody d =
+          less_or m 256 _
+          (λ b. rw (lt-ltb m 256 b, le-ltb m w.threads s))
+          (λ b. same_or m 256 _
+          (λ z. let some = valid.some_domain in let y : m - 256 ≡ 0 = omega arith in rw (le-ltb m 256 b, y, lt-ltb 0 w.domains some))
+          (λ z. rw (le-ltb m 256 b, le-ltb (m - 256) w.domains (n (omega (arith, z))))))
 
   -- PASSES of a member, from the words
   pub passes_word : (ws : List ℕ) → Allowed (effective t) ws → (x m : ℕ) → x ≡ word_of ws m → (d : ℕ) → d < 64 → is_member t d m ≡ true → x ≡ capped (passes t m)
@@ -95,17 +106,16 @@ module _ (w : TreeWords) (ok : (tree_refusal (tree_of w)).number ≡ 0) where
   pub passes_more :
       (k d : ℕ) (ws : List ℕ) (most h x : ℕ) → d ≡ suc k → 0 < k → d ≤ w.domains → length ws ≡ 64 → Filled (effective t) d ws →
       most
-      ≡ cond (is_leaf (parents_in w.domains w.parents) k) 1
-      (largest_below w.domains (λ c. cond (is_child (parents_in w.domains w.parents) k c) (get_or ws c 0) 0)) →
-      (counts : List ℕ) → Counted t counts → (h ≡ cond (ltb 1 (get_or counts k 0)) (get_or w.thresholds k 0) 1) × (get_or w.thresholds k 0 < 65536) → x ≡ capped (h * most) →
+      ≡ cond (is_leaf t k) 1
+      (largest_below t.domains (λ c. cond (is_child t k c) (get_or ws c 0) 0)) →
+      (counts : List ℕ) (o : ℕ) → Counted t counts → o ≡ t.threshold k → h ≡ cond (ltb 1 (get_or counts k 0)) o 1 → x ≡ capped (h * most) →
       Filled (effective t) k (set ws k x)
   unfolding tree_of effective effective_threshold is_leaf is_child
-  passes_more k d ws most h x z p s l filled e counts counted f g =
+  passes_more k d ws most h x z p s l filled e counts o counted y f g =
       let few = few_domains w ok in
       let good = effective_accepted t valid in
       let so_far : Filled (effective t) (suc k) ws = rw z at filled in
-      let threshold = threshold_in w.domains w.threads w.parents w.thresholds w.homes k p (omega arith) f.1 in
-      let own : h ≡ (effective t).threshold k = f.0 ∙ rw (counted.counted k (omega arith), ← threshold) refl in
+      let own : h ≡ (effective t).threshold k = f ∙ rw (counted.counted k (omega arith), y) refl in
       let member = e ∙ member_word (effective t) good k ws so_far in
       filled_next (effective t) k ws x so_far (omega arith) (omega arith) (g ∙ rw (own, member) (next_word (effective t) good k ws so_far p (omega arith)))
 
@@ -142,29 +152,18 @@ module _ (w : TreeWords) (ok : (tree_refusal (tree_of w)).number ≡ 0) where
 
   pub above_some :
       (d p own n h ten r : ℕ) (counts others above : List ℕ) → d ≢ 0 → d < w.domains → p ≡ get_or w.parents d 0 → Counted t counts → Others t others → Above t d above →
-      own ≡ capped (get_or others (256 + d) 0 + get_or above p 0) → n ≡ get_or counts d 0 → h ≡ get_or w.thresholds d 0 → (ten ≡ (n + h - 1) / h) × (h < 65536) →
+      own ≡ capped (get_or others (256 + d) 0 + get_or above p 0) → n ≡ get_or counts d 0 → h ≡ t.threshold d → ten ≡ (n + h - 1) / h →
       r ≡ capped (ten * own) → r ≡ capped (added_above t d)
   unfolding added_above tenures_for_all tree_of
   above_some d p own n h ten r counts others above z s e counted some so_far f a b g k =
       let few = few_domains w ok in
       let up = parent_small d p (omega arith) s e in
       let parent = up.1 in
-      let threshold = threshold_in w.domains w.threads w.parents w.thresholds w.homes d (omega arith) s (rw b at g.1) in
       let one = some.others (t.parent d) (256 + d) (omega arith) (omega arith) (child_member d (omega arith) s) in
       let two : get_or above p 0 ≡ capped (added_above t (t.parent d)) = rw (← parent) (so_far.above p up.0) in
       let whole : own ≡ capped (member_wait t (t.parent d) (256 + d)) = wait_sum (t.parent d) (256 + d) (get_or others (256 + d) 0) (get_or above p 0) own (omega arith) one two f in
-      let tenures : ten ≡ (members t d + t.threshold d - 1) / t.threshold d = g.0 ∙ rw (a, counted.counted d (omega arith), b, ← threshold) refl in
+      let tenures : ten ≡ (members t d + t.threshold d - 1) / t.threshold d = g ∙ rw (a, counted.counted d (omega arith), b) refl in
       rw (ne_eqb d 0 z, k, whole, tenures) (capped_right ((members t d + t.threshold d - 1) / t.threshold d) (member_wait t (t.parent d) (256 + d)))
-
-  pub threshold_positive : (d : ℕ) → 0 < d → d < w.domains → 0 < get_or w.thresholds d 0
-  unfolding tree_of
-  threshold_positive d p s =
-      let some = valid.threshold_some d p s in
-      less_or 0 (get_or w.thresholds d 0) _ (λ h. h)
-      (λ h.
-      let z : get_or w.thresholds d 0 ≡ 0 = omega arith in
-      let same = threshold_in w.domains w.threads w.parents w.thresholds w.homes d p s (omega arith) in
-      absurd (omega arith))
 
   pub count_few : (d n : ℕ) (counts : List ℕ) → d < 64 → Counted t counts → n ≡ get_or counts d 0 → n ≤ 320
   count_few d n counts h counted e = let c = counted.counted d h in let few = few_members t d in omega arith
@@ -233,18 +232,3 @@ module _ (w : TreeWords) (ok : (tree_refusal (tree_of w)).number ≡ 0) where
           less_or x w.threads _
           (λ s. rw (y, lt-ltb x w.threads s) (so_far.done x (omega arith)))
           (λ s. rw (y, le-ltb x w.threads s) (so_far.rest x (omega arith)))
-
--- THE BUFFER
-pub waits_refused_left :
-    (w : TreeWords) (b : List ℕ) (r : Refusal) → r ≡ refusal_words (wait_bounds_answer w) → r.number ≢ 0 → b ≡ wait_bounds_left w b
-unfolding wait_bounds_left
-waits_refused_left w b r e n = rw (ne_eqb (wait_bounds_answer w).number 0 (λ z. n (ap (λ x. x.number) e ∙ z)))
-
-pub waits_accepted : (w : TreeWords) (r : Refusal) → r ≡ refusal_words (wait_bounds_answer w) → r.number ≡ 0 → (tree_refusal (tree_of w)).number ≡ 0
-unfolding wait_bounds_answer
-waits_accepted w r e z = sym (ap (λ (x : Refusal). x.number) e) ∙ z
-
-pub waits_accepted_left :
-    (w : TreeWords) (b ws : List ℕ) → (tree_refusal (tree_of w)).number ≡ 0 → ws ≡ words_from (wait_word (tree_of w)) 256 0 → ws ≡ wait_bounds_left w b
-unfolding wait_bounds_left wait_bounds_answer
-waits_accepted_left w b ws ok e = rw (eq-eqb (tree_refusal (tree_of w)).number 0 ok) e

@@ -1,22 +1,19 @@
 -- What the inner functions of the call for wait bounds read from and leave in their arrays.
-use Rattle.std.specs.Prelude.{◌≡◌, true, cond, List, ℕ, ◌+◌, ◌-◌, ◌*◌, ◌≤◌, ◌<◌, eqb, ltb, get_or, set, length}
+use Rattle.std.specs.Prelude.{◌≡◌, Bool, true, false, Option, None, Some, cond, List, ℕ, ◌+◌, ◌-◌, ◌*◌, ◌<◌, eqb, ltb, get_or, length}
 use Rattle.model.specs.Trees.{Tree, is_member}
 use Rattle.bounds.specs.StarvationFreedom.Bounds.{members}
 use Rattle.bounds.specs.LongestWait.Bounds.{sum_below, passes, others_passes, tenures_for_all, member_wait}
 use Rattle.bounds.specs.Answers.{capped}
 
--- the owner of a record: the record is that of a member of this domain and of no other
-pub record Owned (t : Tree) (number owner : ℕ) : Type 0 where
-  pub owns : (d : ℕ) → d < 64 → is_member t d number ≡ eqb owner d
-  pub within : owner ≤ 64
+-- the domain is the one that owns, if one does
+abbrev pub is_owner : Option ℕ → (domain : ℕ) → Bool
+is_owner None d = false
+is_owner (Some o) d = eqb o d
 
--- the sums with a number added for a domain, capped; no change beyond the array
-unfoldable pub added : (sums : List ℕ) → (at number : ℕ) → List ℕ
-added ws d x = cond (ltb d 64) (set ws d (capped (get_or ws d 0 + x))) ws
-
--- the sum of a domain; 0 beyond the array
-unfoldable pub sum_of : (sums : List ℕ) → (at : ℕ) → ℕ
-sum_of ws d = cond (ltb d 64) (get_or ws d 0) 0
+-- the owner of a record: the record is that of a member of this domain and of no other, or of no domain
+pub record Owned (t : Tree) (number : ℕ) (owner : Option ℕ) : Type 0 where
+  pub owns : (d : ℕ) → d < 64 → is_member t d number ≡ is_owner owner d
+  pub within : (d : ℕ) → owner ≡ Some d → d < 64
 
 -- the passes of a record, from the words of the domains; 1 for a thread
 unfoldable pub word_of : (words : List ℕ) → (number : ℕ) → ℕ

@@ -9,6 +9,7 @@ use borrow.Author.Tests.{eq-eqb, eqb-true, le-leb, lt-leb, lt-ltb, le-ltb, leb-t
 use Rattle.model.specs.declared.Place.{Place}
 use Rattle.model.specs.declared.Place.TheVariants.{Idle, Prep, Swap, Link, Wait, Inside, Check, Help, Cas, Linger, Grant, Draw, Watch, Raise, Invalid}
 use Rattle.model.specs.declared.State.{State}
+use Rattle.std.specs.Prelude.{None, Some}
 use Rattle.model.specs.Trees.{Tree, on_path, own_record, is_member, owner_domain}
 use Rattle.model.specs.Places.{words_of}
 use Rattle.model.specs.States.{acquire_parent, next, status, place, numbers_at}
@@ -102,7 +103,7 @@ module _ (t : Tree) (s : State) (i : ℕ) where
           any_found (suc (height t i)) (names_at r) o.index (omega (arith, o.within)) (sym (ahead_at o.index r o.within) ∙ ap (λ x. acts_ahead t s x r i) o.there ∙ e))
 
     -- the same at a ticket root
-    pub ticket_there : (v : ℕ) → ticket_key from v ≡ cond (acts t s i 0 && ltb v 65536) (v + 1) 0
+    pub ticket_there : (v : ℕ) → ticket_key from v ≡ cond (acts t s i 0 && ltb v 65536) (Some v) None
     unfolding acts
     ticket_there v =
         let z : leb from 0 ≡ eqb from 0 = same_tests (leb from 0) (eqb from 0) (λ e. eq-eqb from 0 (let b = leb-true from 0 e in omega arith)) (λ e. le-leb from 0 (let b = eqb-true from 0 e in omega arith)) in

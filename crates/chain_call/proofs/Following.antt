@@ -9,12 +9,13 @@ use lib.ListN.{get_or, set, length, take, replicate, length-set}
 use lib.Seq.{get_or-set_same, get_or-set_other}
 use borrow.Author.Tests.{eq-eqb, ne_eqb, lt-ltb}
 use Rattle.model.specs.declared.State.{State}
+use Rattle.std.specs.Prelude.{None, Some}
 use Rattle.model.specs.Trees.{Tree}
 use Rattle.model.specs.Runs.{occurrences}
 use Rattle.model.proofs.Lists.{same_or}
 use Rattle.chain.specs.Chain.{stays, looks_to, only, among, chain_from, chain}
 use Rattle.chain.proofs.Chains.{occurrences_snoc}
-use Rattle.chain_call.specs.Tables.{link, Followed}
+use Rattle.chain_call.specs.Tables.{some_length, Followed}
 
 -- LISTS
 pub take_set : (xs : List ℕ) (n v : ℕ) → n < length xs → take (suc n) (set xs n v) ≡ take n xs ++ (v ∷ [])
@@ -36,47 +37,32 @@ unfolding among
 among_snoc_other x j c n = let z : occurrences x (c ++ (j ∷ [])) ≡ occurrences x c = rw (occurrences_snoc x j c, ne_eqb x j n) (omega arith) in rw z refl
 
 -- ONE LINK of the definition
-module _ (t : Tree) (s : State) (k : ℕ) (c : List ℕ) (i : ℕ) (small : link t s i ≢ 400 → link t s i ≤ 300) where
-  abbrev one : ℕ
-  one = only (looks_to t s i)
-
-  stays_then : link t s i ≢ 400 → (stays t s i ≡ true) × (one ≡ link t s i)
-  unfolding link
-  stays_then n = by (stays t s i) refl
-    where
-      by : (b : Bool) → stays t s i ≡ b → (stays t s i ≡ true) × (only (looks_to t s i) ≡ cond (stays t s i) (only (looks_to t s i)) 400)
-      by true e = (e, rw e refl)
-      by false e = absurd (n (rw e refl))
-
-  pub chain_ends : link t s i ≡ 400 → one ≤ 300 → chain_from (suc k) t s c i ≡ c
-  unfolding link chain_from
-  chain_ends e b = by (stays t s i) refl
-    where
-      by : (b : Bool) → stays t s i ≡ b → chain_from (suc k) t s c i ≡ c
-      by true f = let z : only (looks_to t s i) ≡ 400 = rw f at e in absurd (omega arith)
-      by false f = rw f refl
-
-  pub chain_nobody : link t s i ≡ 0 → chain_from (suc k) t s c i ≡ []
+module _ (t : Tree) (s : State) (k : ℕ) (c : List ℕ) (i : ℕ) where
+  pub chain_ends : stays t s i ≡ false → chain_from (suc k) t s c i ≡ c
   unfolding chain_from
-  chain_nobody e =
-      let x = stays_then (λ z. omega arith) in
-      rw (x.0, eq-eqb one 0 (x.1 ∙ e)) refl
+  chain_ends e = rw e refl
 
-  module _ (n : link t s i ≢ 400) (p : link t s i ≢ 0) where
-    abbrev j : ℕ
-    j = link t s i - 1
+  pub chain_nobody : stays t s i ≡ true → only (looks_to t s i) ≡ 0 → chain_from (suc k) t s c i ≡ []
+  unfolding chain_from
+  chain_nobody e f = rw (e, f) refl
 
+  module _ (j : ℕ) (e : stays t s i ≡ true) (f : only (looks_to t s i) ≡ suc j) where
     onward : chain_from (suc k) t s c i ≡ cond (among j c) [] (chain_from k t s (c ++ (j ∷ [])) j)
     unfolding chain_from
     onward =
-        let x = stays_then n in
-        rw (x.0, x.1, ne_eqb (link t s i) 0 p) refl
+        let z : suc j - 1 ≡ j = omega arith in
+        rw (e, f, ne_eqb (suc j) 0 (λ y. omega arith), z) refl
 
     pub chain_comes_back : among j c ≡ true → chain_from (suc k) t s c i ≡ []
-    chain_comes_back e = onward ∙ rw e refl
+    chain_comes_back g = onward ∙ rw g refl
 
     pub chain_goes_on : among j c ≡ false → chain_from (suc k) t s c i ≡ chain_from k t s (c ++ (j ∷ [])) j
-    chain_goes_on e = onward ∙ rw e refl
+    chain_goes_on g = onward ∙ rw g refl
+
+-- the length of a chain with a thread on it
+some_is : (c : List ℕ) (n : ℕ) → length c ≡ n → 1 ≤ n → Some n ≡ some_length c
+some_is [] n e h = absurd (omega arith)
+some_is (x ∷ xs) n e h = ap (λ (m : ℕ). Some m) (sym e)
 
 -- THE LOOP: the threads found so far, of which i is the last; the chain continues from i
 pub record Follows (t : Tree) (s : State) (start : ℕ) (found : List ℕ) (seen : List Bool) (i n : ℕ) : Type 0 where
@@ -109,50 +95,41 @@ module _ (t : Tree) (s : State) (start : ℕ) (few : t.threads ≤ 256) (h : sta
       never (suc n) zero = refl
       never (suc n) (suc j) = never n j
 
-  module _ (found : List ℕ) (seen : List Bool) (i n : ℕ) (x : Follows t s start found seen i n) (small : link t s i ≢ 400 → link t s i ≤ t.threads) (one_small : only (looks_to t s i) ≤ 300) where
+  module _ (found : List ℕ) (seen : List Bool) (i n : ℕ) (x : Follows t s start found seen i n) where
     abbrev k : ℕ
     k = t.threads - n
 
     abbrev c : List ℕ
     c = take n found
 
-    below : link t s i ≢ 400 → link t s i ≤ 300
-    below e = omega (arith, small e, few)
-
     leads_here : chain_from (suc k) t s c i ≡ chain t s start
     leads_here = x.leads (suc k) (omega (arith, x.within))
 
-    pub follow_ends : link t s i ≡ 400 → Followed t.threads (chain t s start) found n
+    pub follow_ends : stays t s i ≡ false → Followed t.threads (chain t s start) found (Some n)
     follow_ends e =
-        let z = sym leads_here ∙ chain_ends t s k c i below e one_small in
-        let b : n ≤ length found = omega (arith, x.found_room, x.within) in
-        rw z (record { length_is = sym (take-length found n b); front = refl; room = x.found_room; few = omega (arith, x.within) })
+        let z = sym leads_here ∙ chain_ends t s k c i e in
+        let l = take-length found n (omega (arith, x.found_room, x.within)) in
+        rw z (record { length_is = some_is c n l x.some; front = rw l refl; room = x.found_room; few = omega (arith, x.within, l) })
 
-    broken : chain_from (suc k) t s c i ≡ [] → Followed t.threads (chain t s start) found 0
+    broken : chain_from (suc k) t s c i ≡ [] → Followed t.threads (chain t s start) found None
     broken e =
         let z : chain t s start ≡ [] = sym leads_here ∙ e in
         rw z (record { length_is = refl; front = refl; room = x.found_room; few = omega arith })
 
-    pub follow_nobody : link t s i ≡ 0 → Followed t.threads (chain t s start) found 0
-    follow_nobody e = broken (chain_nobody t s k c i below e)
+    pub follow_nobody : stays t s i ≡ true → only (looks_to t s i) ≡ 0 → Followed t.threads (chain t s start) found None
+    follow_nobody e f = broken (chain_nobody t s k c i e f)
 
-    module _ (e : link t s i ≢ 400) (p : link t s i ≢ 0) where
-      abbrev ahead : ℕ
-      ahead = link t s i - 1
-
-      pub next_real : ahead < t.threads
-      next_real = let b = small e in omega (arith, p)
-
-      pub follow_full : n ≡ t.threads → Followed t.threads (chain t s start) found 0
+    module _ (ahead : ℕ) (e : stays t s i ≡ true) (p : only (looks_to t s i) ≡ suc ahead) (next_real : ahead < t.threads) where
+      pub follow_full : n ≡ t.threads → Followed t.threads (chain t s start) found None
       unfolding chain_from
       follow_full z = broken (by (among ahead c) refl)
         where
           by : (b : Bool) → among ahead c ≡ b → chain_from (suc k) t s c i ≡ []
-          by true f = chain_comes_back t s k c i below e p f
-          by false f = chain_goes_on t s k c i below e p f ∙ (let y : k ≡ 0 = omega arith in rw y refl)
+          by true f = chain_comes_back t s k c i ahead e p f
+          by false f = chain_goes_on t s k c i ahead e p f ∙ (let y : k ≡ 0 = omega arith in rw y refl)
 
-      pub follow_back : get_or seen ahead false ≡ true → Followed t.threads (chain t s start) found 0
-      follow_back f = broken (chain_comes_back t s k c i below e p (sym (x.marked ahead (omega (arith, next_real))) ∙ f))
+      pub follow_back : get_or seen ahead false ≡ true → Followed t.threads (chain t s start) found None
+      follow_back f = broken (chain_comes_back t s k c i ahead e p (sym (x.marked ahead (omega (arith, next_real))) ∙ f))
 
       pub follow_next : n ≢ t.threads → get_or seen ahead false ≡ false → Follows t s start (set found n ahead) (set seen ahead true) ahead (n + 1)
       follow_next z f =
@@ -170,5 +147,5 @@ module _ (t : Tree) (s : State) (start : ℕ) (few : t.threads ≤ 256) (h : sta
                 (λ y. rw longer (get_or-set_other seen ahead m true false y ∙ x.marked m a ∙ sym (among_snoc_other m ahead c y)));
             leads = λ q d.
                 let w : q ≡ k = omega arith in
-                rw (w, longer) (sym (chain_goes_on t s k c i below e p (sym (x.marked ahead (omega (arith, next_real))) ∙ f)) ∙ leads_here);
+                rw (w, longer) (sym (chain_goes_on t s k c i ahead e p (sym (x.marked ahead (omega (arith, next_real))) ∙ f)) ∙ leads_here);
           })

@@ -1,12 +1,11 @@
--- The proofs.
+-- What several proofs use.
+pub mod Counting
 pub mod Walking
+pub mod Acting
 pub mod Noting
 pub mod Facts
-pub mod Acting
 pub mod Filling
-pub mod Counting
 pub mod Linking
 pub mod Following
 pub mod Turning
 pub mod Answering
-pub mod Copying

@@ -10,6 +10,8 @@ use lib.ListN.{get_or, set, length, length-set}
 use lib.Seq.{get_or-set_same, get_or-set_other}
 use borrow.Author.Tests.{eq-eqb, ne_eqb, eqb-true, le-leb, lt-leb}
 use Rattle.model.specs.declared.TreeWords.{TreeWords}
+use Rattle.chain_call.specs.declared.tables.Count.{Count}
+use Rattle.chain_call.specs.declared.tables.Count.TheVariants.{Nobody}
 use Rattle.model.specs.Scans.{any_below}
 use Rattle.model.specs.Trees.{Tree, tree_of, is_member}
 use Rattle.model.specs.Refusals.{tree_refusal}
@@ -43,8 +45,8 @@ pub any_next : (n : ℕ) (f : ℕ → Bool) → any_below (suc n) f ≡ any_belo
 unfolding any_below
 any_next n f = refl
 
-pub set_at : (xs : List ℕ) (k q v : ℕ) → q ≡ k → k < length xs → get_or (set xs k v) q 0 ≡ v
-set_at xs k q v e b = rw e (get_or-set_same xs k v 0 b)
+pub set_at : (xs : List Count) (k q : ℕ) (v : Count) → q ≡ k → k < length xs → get_or (set xs k v) q Nobody ≡ v
+set_at xs k q v e b = rw e (get_or-set_same xs k v Nobody b)
 
 module _ (w : TreeWords) (ok : (tree_refusal (tree_of w)).number ≡ 0) (ns : List ℕ) (own : OwnedNexts (tree_of w) ns) (from j : ℕ) (h : j < w.threads) where
   abbrev t : Tree
@@ -75,12 +77,12 @@ module _ (w : TreeWords) (ok : (tree_refusal (tree_of w)).number ≡ 0) (ns : Li
       let z = ancestor_injective t valid j real m k (omega arith) l same in
       omega arith)
 
-  pub note_first : (xs : List ℕ) → Noted t ns from j 0 xs xs
+  pub note_first : (xs : List Count) → Noted t ns from j 0 xs xs
   unfolding any_below
   note_first xs = record { count = λ r b. refl }
 
   -- one more domain
-  module _ (k : ℕ) (l : k ≤ height t j) (acting : from ≤ ancestor t j k) (before mid : List ℕ) (room : length mid ≡ 320) (so_far : Noted t ns from j k before mid) where
+  module _ (k : ℕ) (l : k ≤ height t j) (acting : from ≤ ancestor t j k) (before mid : List Count) (room : length mid ≡ 320) (so_far : Noted t ns from j k before mid) where
     abbrev n : ℕ
     n = get_or ns (record_at t j k) 0
 
@@ -97,48 +99,48 @@ module _ (w : TreeWords) (ok : (tree_refusal (tree_of w)).number ≡ 0) (ns : Li
     note_next =
         same_or n 0 _
         (λ z. rw (eq-eqb n 0 z)
-        (record { count = λ q b. so_far.count q b ∙ ap (λ x. more_if x (get_or before q 0) j) (sym (missed q (λ e. omega arith))) }))
+        (record { count = λ q b. so_far.count q b ∙ ap (λ x. more_if x (get_or before q Nobody) j) (sym (missed q (λ e. omega arith))) }))
         (λ z. rw (ne_eqb n 0 z)
         (record {
           count = λ q b. same_or q (n - 1) _
               (λ e.
               let y : n ≡ q + 1 = omega (arith, z) in
-              let old : get_or mid q 0 ≡ get_or before q 0 = so_far.count q b ∙ ap (λ x. more_if x (get_or before q 0) j) (named_once k q l y) in
-              set_at mid (n - 1) q (more (get_or mid (n - 1) 0) j) e (omega arith) ∙ ap (λ x. more x j) (ap (λ y. get_or mid y 0) (sym e) ∙ old) ∙ ap (λ x. more_if x (get_or before q 0) j) (sym (hit q y)))
-              (λ e. get_or-set_other mid (n - 1) q (more (get_or mid (n - 1) 0) j) 0 e ∙ so_far.count q b
-              ∙ ap (λ x. more_if x (get_or before q 0) j) (sym (missed q (λ y. e (omega arith)))));
+              let old : get_or mid q Nobody ≡ get_or before q Nobody = so_far.count q b ∙ ap (λ x. more_if x (get_or before q Nobody) j) (named_once k q l y) in
+              set_at mid (n - 1) q (more (get_or mid (n - 1) Nobody) j) e (omega arith) ∙ ap (λ x. more x j) (ap (λ y. get_or mid y Nobody) (sym e) ∙ old) ∙ ap (λ x. more_if x (get_or before q Nobody) j) (sym (hit q y)))
+              (λ e. get_or-set_other mid (n - 1) q (more (get_or mid (n - 1) Nobody) j) Nobody e ∙ so_far.count q b
+              ∙ ap (λ x. more_if x (get_or before q Nobody) j) (sym (missed q (λ y. e (omega arith)))));
         }))
 
-  pub noted_room : (xs : List ℕ) (n : ℕ) → length (noted xs n j) ≡ length xs
+  pub noted_room : (xs : List Count) (n : ℕ) → length (noted xs n j) ≡ length xs
   noted_room xs n =
-      same_or n 0 _ (λ z. rw (eq-eqb n 0 z) refl) (λ z. rw (ne_eqb n 0 z) (length-set xs (n - 1) (more (get_or xs (n - 1) 0) j)))
+      same_or n 0 _ (λ z. rw (eq-eqb n 0 z) refl) (λ z. rw (ne_eqb n 0 z) (length-set xs (n - 1) (more (get_or xs (n - 1) Nobody) j)))
 
   -- the rest of the path, where the thread does not act
-  pub note_rest : (k : ℕ) → k ≤ height t j → ancestor t j k < from → (xs ys : List ℕ) → Noted t ns from j k xs ys → Noted t ns from j (suc (height t j)) xs ys
+  pub note_rest : (k : ℕ) → k ≤ height t j → ancestor t j k < from → (xs ys : List Count) → Noted t ns from j k xs ys → Noted t ns from j (suc (height t j)) xs ys
   note_rest k l low xs ys so_far =
       record {
-        count = λ q b. so_far.count q b ∙ ap (λ x. more_if x (get_or xs q 0) j) (sym (any_longer (suc (height t j)) k _ (omega arith) (λ m a c.
+        count = λ q b. so_far.count q b ∙ ap (λ x. more_if x (get_or xs q Nobody) j) (sym (any_longer (suc (height t j)) k _ (omega arith) (λ m a c.
             same_or k m (leb from (ancestor t j m) && eqb (get_or ns (record_at t j m) 0) (q + 1) ≡ false)
             (λ e. let z : ancestor t j m < from = rw e at low in rw (lt-leb from (ancestor t j m) z))
             (λ e. let s = ancestor_strict t valid j real k m (omega arith) (omega arith) in rw (lt-leb from (ancestor t j m) (omega arith))))));
       }
 
   -- at the root the whole path is noted
-  pub note_root : (k : ℕ) → k ≤ height t j → ancestor t j k ≡ 0 → (xs ys : List ℕ) → Noted t ns from j (suc k) xs ys → Noted t ns from j (suc (height t j)) xs ys
+  pub note_root : (k : ℕ) → k ≤ height t j → ancestor t j k ≡ 0 → (xs ys : List Count) → Noted t ns from j (suc k) xs ys → Noted t ns from j (suc (height t j)) xs ys
   note_root k l e xs ys x = let z = ancestor_zero t valid j real k l e in rw z at x
 
 -- the loop that notes a path: it is at domain c with record r, and the domains before c are noted
-pub record Noting (t : Tree) (ns : List ℕ) (from j : ℕ) (before after : List ℕ) (r c : ℕ) : Type 0 where
+pub record Noting (t : Tree) (ns : List ℕ) (from j : ℕ) (before after : List Count) (r c : ℕ) : Type 0 where
   pub at : At t j r c
   pub so_far : Noted t ns from j at.index before after
   pub room : length after ≡ 320
 
-module _ (w : TreeWords) (ok : (tree_refusal (tree_of w)).number ≡ 0) (ns : List ℕ) (own : OwnedNexts (tree_of w) ns) (from j : ℕ) (h : j < w.threads) (xs : List ℕ) where
+module _ (w : TreeWords) (ok : (tree_refusal (tree_of w)).number ≡ 0) (ns : List ℕ) (own : OwnedNexts (tree_of w) ns) (from j : ℕ) (h : j < w.threads) (xs : List Count) where
   pub noting_first : length xs ≡ 320 → Noting (tree_of w) ns from j xs xs j (get_or w.homes j 0)
   unfolding at_home
   noting_first e = record { at = at_home w ok j h; so_far = note_first w ok ns own from j h xs; room = e }
 
-  module _ (ys : List ℕ) (r c : ℕ) (x : Noting (tree_of w) ns from j xs ys r c) where
+  module _ (ys : List Count) (r c : ℕ) (x : Noting (tree_of w) ns from j xs ys r c) where
     pub next_small : get_or ns r 0 ≤ 320
     next_small =
         same_or (get_or ns r 0) 0 _ (λ z. omega arith)

@@ -3,8 +3,7 @@ use mathlib.Core.Path.{◌≡◌, sym, ◌∙◌}
 use mathlib.Core.Bool.{Bool, true, false}
 use mathlib.Core.List.{List}
 use mathlib.Core.Logic.{◌≢◌}
-use Prim.Native.Nat.{ℕ, ◌+◌, ◌-◌, ◌≤◌, ◌<◌}
-use native.Mathlib.Omega.{arith}
+use Prim.Native.Nat.{ℕ, suc, ◌+◌, ◌≤◌, ◌<◌}
 use lib.ListN.{get_or, set, replicate}
 use Rattle.model.specs.declared.TreeWords.{TreeWords}
 use Rattle.model.specs.declared.State.{State}
@@ -14,21 +13,25 @@ use Rattle.model.specs.Refusals.{tree_refusal}
 use Rattle.model.specs.States.{numbers_at}
 use Rattle.model.proofs.Trees.Accepted.{Accepted, accepted}
 use Rattle.model.proofs.Trees.Reading.{threads_read}
-use Rattle.chain.specs.Chain.{looks_to, only, chain}
-use Rattle.chain_call.specs.Tables.{Tables, link, SoundPlace, link_by, Followed}
+use Rattle.chain.specs.Chain.{stays, looks_to, only, chain}
+use Rattle.chain_call.specs.declared.tables.Count.{Count}
+use Rattle.chain_call.specs.declared.links.Link.{Link}
+use Rattle.chain_call.specs.declared.links.Link.TheVariants.{Moves, To, Broken}
+use Rattle.std.specs.Prelude.{Option, None, Some}
+use Rattle.chain_call.specs.Tables.{Filled, SoundPlace, link_by, Followed}
 use Rattle.chain_call.proofs.Filling.{on_its_path}
-use Rattle.chain_call.proofs.Linking.{link_is, sound_place, link_small, only_few}
-use Rattle.chain_call.proofs.Following.{Follows, follow_first, follow_ends, follow_nobody, next_real, follow_full, follow_back, follow_next}
+use Rattle.chain_call.proofs.Linking.{LinkOf, link_is, sound_place}
+use Rattle.chain_call.proofs.Following.{Follows, follow_first, follow_ends, follow_nobody, follow_full, follow_back, follow_next}
 
-module _ (w : TreeWords) (ok : (tree_refusal (tree_of w)).number ≡ 0) (s : State) (form : well_formed (tree_of w) s ≡ true) (xs ks vs : List ℕ)
-    (tables : Tables (tree_of w) s w.threads xs ks vs) (start : ℕ) (h : start < w.threads) where
+module _ (w : TreeWords) (ok : (tree_refusal (tree_of w)).number ≡ 0) (s : State) (form : well_formed (tree_of w) s ≡ true) (xs : List Count) (ks vs : List (Option ℕ))
+    (tables : Filled (tree_of w) s w.threads xs ks vs) (start : ℕ) (h : start < w.threads) where
   abbrev t : Tree
   t = tree_of w
 
   valid : Accepted t
   valid = accepted t ok
 
-  all_tables : Tables t s t.threads xs ks vs
+  all_tables : Filled t s t.threads xs ks vs
   unfolding tree_of
   all_tables = tables
 
@@ -48,45 +51,32 @@ module _ (w : TreeWords) (ok : (tree_refusal (tree_of w)).number ≡ 0) (s : Sta
     pub turn_sound : SoundPlace t s.statuses i (numbers_at s.places i)
     turn_sound = sound_place t valid s form xs ks vs all_tables i x.real (on_its_path w ok s form i turn_real)
 
-    module _ (one : ℕ) (e : one ≡ link_by t s.nexts s.statuses xs ks vs s.grant (numbers_at s.places i) i) where
-      is_link : one ≡ link t s i
-      is_link = e ∙ link_is t valid s form xs ks vs all_tables i x.real (on_its_path w ok s form i turn_real)
+    module _ (one : Link) (e : one ≡ link_by t s xs ks vs i) where
+      is_link : LinkOf t s i one
+      is_link = rw e (link_is t valid s form xs ks vs all_tables i x.real (on_its_path w ok s form i turn_real))
 
-      small : link t s i ≢ 400 → link t s i ≤ t.threads
-      small = link_small t valid s form xs ks vs all_tables i x.real (on_its_path w ok s form i turn_real)
-
-      few : only (looks_to t s i) ≤ 300
-      few = only_few t valid s form xs ks vs all_tables i x.real (on_its_path w ok s form i turn_real)
-
-      pub turn_ends : one ≡ 400 → Followed w.threads (chain t s start) found n
+      pub turn_ends : one ≡ Moves → Followed w.threads (chain t s start) found (Some n)
       unfolding tree_of
-      turn_ends z = follow_ends t s start valid.few_threads start_real found seen i n x small few (sym is_link ∙ z)
+      turn_ends z = follow_ends t s start valid.few_threads start_real found seen i n x (is_link.moves z)
 
-      pub turn_nobody : one ≡ 0 → Followed w.threads (chain t s start) found 0
+      pub turn_nobody : one ≡ Broken → Followed w.threads (chain t s start) found None
       unfolding tree_of
-      turn_nobody z = follow_nobody t s start valid.few_threads start_real found seen i n x small few (sym is_link ∙ z)
+      turn_nobody z = let b = is_link.broken z in follow_nobody t s start valid.few_threads start_real found seen i n x b.0 b.1
 
-      module _ (p : one ≢ 400) (q : one ≢ 0) where
-        p' : link t s i ≢ 400
-        p' z = p (is_link ∙ z)
+      module _ (j : ℕ) (z : one ≡ To j) where
+        stayed : (stays t s i ≡ true) × (only (looks_to t s i) ≡ suc j) × (j < t.threads)
+        stayed = is_link.leads j z
 
-        q' : link t s i ≢ 0
-        q' z = q (is_link ∙ z)
+        pub turn_small : j < w.threads
+        turn_small = rw (threads_read w) at stayed.2
 
-        pub turn_small : one - 1 < w.threads
-        turn_small =
-            let b = next_real t s start valid.few_threads start_real found seen i n x small few p' q' in
-            let z = threads_read w in
-            rw is_link (omega arith)
-
-        pub turn_full : n ≡ w.threads → Followed w.threads (chain t s start) found 0
+        pub turn_full : n ≡ w.threads → Followed w.threads (chain t s start) found None
         unfolding tree_of
-        turn_full z = follow_full t s start valid.few_threads start_real found seen i n x small few p' q' (z ∙ sym (threads_read w))
+        turn_full y = follow_full t s start valid.few_threads start_real found seen i n x j stayed.0 stayed.1 stayed.2 (y ∙ sym (threads_read w))
 
-        pub turn_back : get_or seen (one - 1) false ≡ true → Followed w.threads (chain t s start) found 0
+        pub turn_back : get_or seen j false ≡ true → Followed w.threads (chain t s start) found None
         unfolding tree_of
-        turn_back z = follow_back t s start valid.few_threads start_real found seen i n x small few p' q' (rw is_link at z)
+        turn_back y = follow_back t s start valid.few_threads start_real found seen i n x j stayed.0 stayed.1 stayed.2 y
 
-        pub turn_next : n ≢ w.threads → get_or seen (one - 1) false ≡ false → Follows t s start (set found n (one - 1)) (set seen (one - 1) true) (one - 1) (n + 1)
-        turn_next y z =
-            rw is_link (follow_next t s start valid.few_threads start_real found seen i n x small few p' q' (λ v. y (v ∙ threads_read w)) (rw is_link at z))
+        pub turn_next : n ≢ w.threads → get_or seen j false ≡ false → Follows t s start (set found n j) (set seen j true) j (n + 1)
+        turn_next y v = follow_next t s start valid.few_threads start_real found seen i n x j stayed.0 stayed.1 stayed.2 (λ u. y (u ∙ threads_read w)) v

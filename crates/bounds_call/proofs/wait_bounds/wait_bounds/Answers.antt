@@ -1,40 +1,23 @@
--- `bounds_call::wait_bounds::wait_bounds` meets its contract: the tree's refusal, or W of every thread.
-use mathlib.Core.Path.{◌∙◌}
-use Rattle.refusals.proofs.Reading.{refusal_words_same}
-use Rattle.bounds.specs.Answers.{wait_bounds_answer}
-use Rattle.bounds_call.proofs.WaitWords.{waits_refused_left, waits_accepted, waits_accepted_left}
+-- The tree's refusal, or W of every thread.
+use mathlib.Core.Path.{ap, ◌∙◌}
+use Rattle.model.specs.Trees.{tree_of}
+use Rattle.refusals.proofs.Refusing.{error_passed}
+use Rattle.bounds.specs.Answers.{wait_bounds_answer, wait_bounds_left, words_from, wait_word}
+use Rattle.bounds_call.proofs.Answers.{left_refused, left_accepted}
 use Rattle.bounds_call.proofs.wait_bounds.wait_bounds.Goals as goal
 
-pub returns-then-refusal-ne0 : goal.returns-then-refusal-ne0
+pub returns-in_err-of-clause-value : goal.returns-in_err-of-clause-value
 unfolding wait_bounds_answer
-returns-then-refusal-ne0 c = let e = c.tree_refusal_of-refusal.ensures ∙ refusal_words_same _ in
-    record { value = e; buffer_after = waits_refused_left _ _ _ e c.if-refusal-ne0.true }
+returns-in_err-of-clause-value c = error_passed _ _ c.from_residual.ensures.1 c.in_err-of.ensures.refused
 
-pub count_members-counts-requires : goal.count_members-counts-requires
-unfolding wait_bounds_answer
-count_members-counts-requires c = waits_accepted _ _ (c.tree_refusal_of-refusal.ensures ∙ refusal_words_same _) c.if-refusal-ne0.false
+pub returns-in_err-of-clause-buffer_after : goal.returns-in_err-of-clause-buffer_after
+unfolding wait_bounds_left wait_bounds_answer
+returns-in_err-of-clause-buffer_after c = left_refused _ _ _ _ c.in_err-of.ensures.refused
 
-pub passes_of-words-requires : goal.passes_of-words-requires
+pub returns-clause-value : goal.returns-clause-value
 unfolding wait_bounds_answer
-passes_of-words-requires c = record { tree_value = waits_accepted _ _ (c.tree_refusal_of-refusal.ensures ∙ refusal_words_same _) c.if-refusal-ne0.false; counted = c.count_members-counts.ensures }
+returns-clause-value c = c.in_ok-of.ensures.refused
 
-pub sums_before-before-requires : goal.sums_before-before-requires
-unfolding wait_bounds_answer
-sums_before-before-requires c = record { tree_value = waits_accepted _ _ (c.tree_refusal_of-refusal.ensures ∙ refusal_words_same _) c.if-refusal-ne0.false; allowed = c.passes_of-words.ensures }
-
-pub sums_of_others-others-requires : goal.sums_of_others-others-requires
-unfolding wait_bounds_answer
-sums_of_others-others-requires c = record { tree_value = waits_accepted _ _ (c.tree_refusal_of-refusal.ensures ∙ refusal_words_same _) c.if-refusal-ne0.false; allowed = c.passes_of-words.ensures; before = c.sums_before-before.ensures }
-
-pub above_words-above-requires : goal.above_words-above-requires
-unfolding wait_bounds_answer
-above_words-above-requires c = record { tree_value = waits_accepted _ _ (c.tree_refusal_of-refusal.ensures ∙ refusal_words_same _) c.if-refusal-ne0.false; counted = c.count_members-counts.ensures; others = c.sums_of_others-others.ensures }
-
-pub wait_words-requires : goal.wait_words-requires
-unfolding wait_bounds_answer
-wait_words-requires c = record { tree_value = waits_accepted _ _ (c.tree_refusal_of-refusal.ensures ∙ refusal_words_same _) c.if-refusal-ne0.false; others = c.sums_of_others-others.ensures; above = c.above_words-above.ensures }
-
-pub returns : goal.returns
-unfolding wait_bounds_answer
-returns c = let e = c.tree_refusal_of-refusal.ensures ∙ refusal_words_same _ in
-    record { value = e; buffer_after = waits_accepted_left _ _ _ (waits_accepted _ _ e c.if-refusal-ne0.false) c.wait_words.ensures }
+pub returns-clause-buffer_after : goal.returns-clause-buffer_after
+unfolding wait_bounds_left wait_bounds_answer
+returns-clause-buffer_after c = left_accepted _ _ _ _ c.in_ok-of.ensures.refused (c.waits.ensures ∙ ap (λ w. words_from (wait_word (tree_of w)) 256 0) (c.of-members.ensures ∙ c.in_ok-of.ensures.words))

@@ -1,10 +1,10 @@
--- `chain_call::tables::note_path` meets its contract: the domains so far are entered.
-use Rattle.chain_call.specs.Tables.{tree_at}
+-- The domains so far are entered.
+use Rattle.model.specs.Trees.{tree_of}
 use Rattle.chain_call.proofs.Noting.{Noting}
 use Rattle.chain_call.proofs.tables.note_path.Given as goal
 
-abbrev pub invariant-loop-c : goal.invariant-loop-c
-invariant-loop-c l = Noting (tree_at l.domains l.threads l.parents l.thresholds l.homes l.ticket_root) l.nexts l.from l.j l.initial.ahead l.ahead l.r l.c
+abbrev pub invariant-loop-ahead : goal.invariant-loop-ahead
+invariant-loop-ahead l = Noting (tree_of l.tree) l.nexts l.from l.j l.initial.ahead l.ahead l.r l.c
 
-abbrev pub decreases-loop-c : goal.decreases-loop-c
-decreases-loop-c l = l.c
+abbrev pub decreases-loop-ahead : goal.decreases-loop-ahead
+decreases-loop-ahead l = l.c

@@ -1,0 +1,7 @@
+-- The threads so far are in the tables.
+use Rattle.model.specs.Trees.{tree_of}
+use Rattle.chain_call.specs.Tables.{Filled}
+use Rattle.chain_call.proofs.tables.Tables.of.Given as goal
+
+abbrev pub invariant-loop-j : goal.invariant-loop-j
+invariant-loop-j l = Filled (tree_of l.tree) l.state l.j l.tables.ahead l.tables.linking l.tables.tickets
