@@ -11,9 +11,7 @@ use borrow.Author.Tests.{ltb-true, ltb-false, lt-ltb, le-ltb}
 use Rattle.model.specs.declared.Counts.{Counts}
 use Rattle.model.specs.Refusals.{refusal}
 use Rattle.lock_file.specs.FileAnswers.FileAnswers.{tree_outcome, refused_by, lists, listing_outcome, reading_outcome, file_outcome}
-use Rattle.lock_file.specs.declared.Reached.TheVariants.{At, Ended, BadMap}
-use Rattle.lock_file.specs.declared.TreeRead.{TreeRead}
-use Rattle.lock_file.specs.Reading.{reached_refusal, tree_read, entries_at, reading_of, file_read}
+use Rattle.lock_file.specs.Reading.{At, Ended, BadMap, TreeRead, reached_refusal, tree_read, entries_at, reading_of, file_read}
 use Rattle.lock_file.specs.PrintedListing.Listing.{listing, printed_length}
 use Rattle.lock_file.proofs.printed_listing.Numerals.{length_first_line}
 use Rattle.lock_file.proofs.printed_listing.Lengths.{length_listing}

@@ -11,8 +11,8 @@ zero_is : of_bits binary64 0 ≡ fin false 0 (pos 0)
 unfolding of_bits
 zero_is = refl
 
-pub returns-in-Rate : goal.returns-in-Rate
-returns-in-Rate c = sym (ap reply_of c.in-Rate.is)
+pub returns-in-Ok : goal.returns-in-Ok
+returns-in-Ok c = sym (ap reply_of c.in-Ok.is)
 
-pub returns-in-Refused : goal.returns-in-Refused
-returns-in-Refused c = rw zero_is (sym (ap reply_of c.in-Refused.is))
+pub returns-in-Err : goal.returns-in-Err
+returns-in-Err c = rw zero_is (sym (ap reply_of c.in-Err.is))
