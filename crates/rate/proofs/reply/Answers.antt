@@ -3,7 +3,8 @@ use mathlib.Core.Path.{◌≡◌, refl, sym, ap}
 use mathlib.Core.Bool.{false}
 use lib.IntN.{pos}
 use lib.Ieee.{fin, of_bits, binary64}
-use Rattle.rate.specs.Answers.{reply_of}
+use Rattle.model.specs.Refusals.{refusal}
+use Rattle.rate.specs.Answers.{answer_from, reply_of}
 use Rattle.rate.proofs.reply.Goals as goal
 
 -- the compiled code has 0.0 as its bit pattern
@@ -12,7 +13,8 @@ unfolding of_bits
 zero_is = refl
 
 pub returns-in-Ok : goal.returns-in-Ok
-returns-in-Ok c = sym (ap reply_of c.in-Ok.is)
+returns-in-Ok c = sym (ap (λ a. reply_of (answer_from a)) c.in-Ok.is)
 
 pub returns-in-Err : goal.returns-in-Err
-returns-in-Err c = rw zero_is (sym (ap reply_of c.in-Err.is))
+unfolding refusal
+returns-in-Err c = rw (zero_is, c.number.ensures) (sym (ap (λ a. reply_of (answer_from a)) c.in-Err.is))
