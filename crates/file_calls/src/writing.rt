@@ -28,14 +28,14 @@ pub fn write_file(tree: TreeWords, schedule: &[u16], file: &mut [u8]) -> WriteRe
     }
     // The tree takes at most 1 byte, 63 entries of 4, 2 bytes and 256 entries of 2.
     let mut measured = [0u8; 767];
-    let length = writing::put_tree(&mut measured, tree) + 2 * schedule.len();
+    let length = writing::put_tree(&mut measured, &tree) + 2 * schedule.len();
     if 65536 < length {
         return refused_by(1, 0);
     }
     if file.len() < length {
         return refused_by(17, 0);
     }
-    let after_tree = writing::put_tree(file, tree);
+    let after_tree = writing::put_tree(file, &tree);
     writing::put_schedule(file, after_tree, schedule);
     WriteReply {
         number: 0,
