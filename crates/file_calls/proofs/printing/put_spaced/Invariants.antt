@@ -1,7 +1,7 @@
 -- At each turn of the loop, what remains to write gives the result of the whole.
-use Rattle.std.proofs.Common.{◌≡◌, ◌≤◌, ◌+◌, ◌-◌, ◌*◌, length, drop}
+use Rattle.std.proofs.Common.{◌≡◌, ◌+◌, length, drop}
 use Rattle.std.proofs.lemmas.List.Edits.{sets}
-use Rattle.lock_file.specs.PrintedListing.Listing.{spaced, trace_lines}
+use Rattle.lock_file.specs.PrintedListing.Listing.{spaced}
 use Rattle.file_calls.proofs.printing.put_spaced.Given as goal
 
 abbrev pub invariant-loop-n : goal.invariant-loop-n

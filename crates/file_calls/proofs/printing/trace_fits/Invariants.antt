@@ -1,7 +1,6 @@
 -- At each turn of the loop, what remains to write gives the result of the whole.
-use Rattle.std.proofs.Common.{◌≡◌, ◌≤◌, ◌+◌, ◌-◌, ◌*◌, length, drop}
-use Rattle.std.proofs.lemmas.List.Edits.{sets}
-use Rattle.lock_file.specs.PrintedListing.Listing.{spaced, trace_lines}
+use Rattle.std.proofs.Common.{◌≡◌, ◌≤◌, ◌+◌, length, drop}
+use Rattle.lock_file.specs.PrintedListing.Listing.{trace_lines}
 use Rattle.file_calls.proofs.printing.trace_fits.Given as goal
 
 abbrev pub invariant-loop-i : goal.invariant-loop-i

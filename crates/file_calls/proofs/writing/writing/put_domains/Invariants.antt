@@ -1,8 +1,8 @@
 -- At each turn of the loop, what remains to write gives the result of the whole.
-use Rattle.std.proofs.Common.{◌≡◌, ◌≤◌, ◌+◌, ◌-◌, ◌*◌, length, drop}
+use Rattle.std.proofs.Common.{◌≡◌, ◌+◌, ◌-◌, length}
 use Rattle.std.proofs.lemmas.List.Edits.{sets}
 use Rattle.model.specs.Trees.{tree_of}
-use Rattle.lock_file.specs.FileWriter.Writing.{written_domains, domains_of, written_threads, threads_of, written_schedule}
+use Rattle.lock_file.specs.FileWriter.Writing.{written_domains, domains_of}
 use Rattle.file_calls.proofs.writing.writing.put_domains.Given as goal
 
 abbrev pub invariant-loop-d : goal.invariant-loop-d
