@@ -5,6 +5,7 @@ ghost use Rattle.lock_file.specs.PrintedListing.Listing.{numeral, number_then, t
 
 use model::Counts;
 
+// Kept: a loop that divides by ten is plainer here and below than an iterator over the quotients.
 // How many digits a numeral has.
 fn digit_count(value: u32) -> usize
     ensures value { result ≡ length (numeral value) }

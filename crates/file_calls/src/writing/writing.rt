@@ -19,6 +19,7 @@ fn put_two_bytes(buffer: &mut [u8], at: usize, value: u16) -> usize
     at + 2
 }
 
+// Kept: one branch for each of the format's four kinds of entry is plainer than a position that moves.
 // Writes a domain's entry at a position, with a bit set only if a value differs from its default; returns the position after it.
 fn put_domain(buffer: &mut [u8], at: usize, parent: u8, threshold: u16) -> usize
     requires { at + length (written_domain parent threshold) ≤ length buffer.old }
