@@ -1,26 +1,20 @@
 // Decimal numerals, the listing of a run, and the refusal line.
-ghost use Rattle.std.specs.Prelude.{◌≡◌, [], ◌∷◌, ◌+◌, ◌*◌, ◌<◌, ◌≤◌, leb, length};
+ghost use Rattle.std.specs.Prelude.{◌≡◌, ◌+◌, ◌*◌, ◌≤◌, leb, length, IfSome};
 ghost use Rattle.std.proofs.lemmas.List.Edits.{sets};
-ghost use Rattle.lock_file.specs.PrintedListing.Listing.{digit, numeral, number_then, trace_lines, spaced, count_numbers, first_line, listing, refusal_line, printed, printed_length};
+ghost use Rattle.lock_file.specs.PrintedListing.Listing.{numeral, number_then, trace_lines, spaced, count_numbers, first_line, listing, refusal_line, printed, printed_length, fitted};
 
 use model::Counts;
 
-fn digit_of(d: u32) -> u8
-    requires { d < 10 }
-    ensures { result ≡ digit d }
-{
-    48 + d as u8
-}
-
+// Kept: a loop that divides by ten is plainer here and below than an iterator over the quotients.
 // How many digits a numeral has.
 fn digit_count(value: u32) -> usize
     ensures value { result ≡ length (numeral value) }
     ensures upper_bound { result ≤ 10 }
 {
     let mut rest = value;
-    let mut n: usize = 1;
+    let mut n = 1;
     while 10 <= rest {
-        rest = rest / 10;
+        rest /= 10;
         n += 1;
     }
     n
@@ -37,10 +31,10 @@ fn put_numeral(output: &mut [u8], at: usize, value: u32) -> usize
     let mut left = count;
     while 10 <= rest {
         left -= 1;
-        output[at + left] = digit_of(rest % 10);
-        rest = rest / 10;
+        output[at + left] = b'0' + (rest % 10) as u8;
+        rest /= 10;
     }
-    output[at] = digit_of(rest);
+    output[at] = b'0' + rest as u8;
     at + count
 }
 
@@ -63,14 +57,6 @@ fn number_length(value: u32) -> usize
     digit_count(value) + 1
 }
 
-fn put_ok(output: &mut [u8])
-    requires { 2 ≤ length output.old }
-    ensures { output.new ≡ sets output.old 0 (111 ∷ 107 ∷ []) }
-{
-    output[0] = 111;
-    output[1] = 107;
-}
-
 // Writes numbers at a position, each after a space, and a line feed; returns the position after it.
 fn put_spaced(output: &mut [u8], start: usize, numbers: &[u32]) -> usize
     requires { start + length (spaced numbers.now) ≤ length output.old }
@@ -78,13 +64,11 @@ fn put_spaced(output: &mut [u8], start: usize, numbers: &[u32]) -> usize
     ensures output_after { output.new ≡ sets output.old start (spaced numbers.now) }
 {
     let mut at = start;
-    let mut k = 0;
-    while k < numbers.len() {
-        output[at] = 32;
-        at = put_numeral(output, at + 1, numbers[k]);
-        k += 1;
+    for n in numbers {
+        output[at] = b' ';
+        at = put_numeral(output, at + 1, *n);
     }
-    output[at] = 10;
+    output[at] = b'\n';
     at + 1
 }
 
@@ -94,11 +78,9 @@ fn spaced_length(numbers: &[u32]) -> usize
     ensures value { result ≡ length (spaced numbers.now) }
     ensures upper_bound { result ≤ 89 }
 {
-    let mut total: usize = 1;
-    let mut k = 0;
-    while k < numbers.len() {
-        total = total + number_length(numbers[k]);
-        k += 1;
+    let mut total = 1;
+    for n in numbers {
+        total += number_length(*n);
     }
     total
 }
@@ -123,7 +105,7 @@ fn put_first_line(output: &mut [u8], counts: Counts) -> usize
     ensures output_after { output.new ≡ sets output.old 0 (first_line counts) }
 {
     let numbers = numbers_of(counts);
-    put_ok(output);
+    output[..2].copy_from_slice(b"ok");
     put_spaced(output, 2, &numbers)
 }
 
@@ -143,11 +125,8 @@ fn put_trace(output: &mut [u8], start: usize, trace: &[u16]) -> usize
     ensures output_after { output.new ≡ sets output.old start (trace_lines trace.now) }
 {
     let mut at = start;
-    let mut k = 0;
-    while k < trace.len() {
-        let i = casts::word_number(trace[k]);
-        at = put_number(output, at, i, 10);
-        k += 1;
+    for i in trace {
+        at = put_number(output, at, u32::from(*i), b'\n');
     }
     at
 }
@@ -157,48 +136,40 @@ fn trace_fits(trace: &[u16], room: usize) -> bool
     ensures { result ≡ leb (length (trace_lines trace.now)) room }
 {
     let mut left = room;
-    let mut k = 0;
-    while k < trace.len() {
-        let n = number_length(casts::word_number(trace[k]));
+    for i in trace {
+        let n = number_length(u32::from(*i));
         if left < n {
             return false;
         }
         left -= n;
-        k += 1;
     }
     true
 }
 
-// Writes the listing at the front and returns its length. It is measured first, so that an output buffer that is too short is unchanged; then 0 is returned.
+// Writes the listing at the front and returns its length, or nothing if it does not fit. It is measured first, so that an output buffer that is too short is unchanged.
+pub(crate) fn put_listing(counts: Counts, trace: &[u16], output: &mut [u8]) -> Option<usize>
+    ensures value { result ≡ fitted (listing counts trace.now) (length output.old) }
+    ensures upper_bound { IfSome result (λ n. n ≤ 91 + 11 * length trace.now) }
+    ensures output_after { output.new ≡ printed (listing counts trace.now) output.old }
+{
+    let line = first_line_length(counts);
+    if output.len() < line || !trace_fits(trace, output.len() - line) {
+        return None;
+    }
+    let at = put_first_line(output, counts);
+    Some(put_trace(output, at, trace))
+}
+
+// The same; 0 is returned if the listing does not fit.
 pub fn write_listing(counts: Counts, trace: &[u16], output: &mut [u8]) -> usize
     ensures value { result ≡ printed_length (listing counts trace.now) (length output.old) }
     ensures upper_bound { result ≤ 91 + 11 * length trace.now }
     ensures output_after { output.new ≡ printed (listing counts trace.now) output.old }
 {
-    let line = first_line_length(counts);
-    if output.len() < line {
-        return 0;
-    }
-    if !trace_fits(trace, output.len() - line) {
-        return 0;
-    }
-    let at = put_first_line(output, counts);
-    put_trace(output, at, trace)
+    put_listing(counts, trace, output).unwrap_or(0)
 }
 
-fn put_refused(output: &mut [u8])
-    requires { 7 ≤ length output.old }
-    ensures { output.new ≡ sets output.old 0 (114 ∷ 101 ∷ 102 ∷ 117 ∷ 115 ∷ 101 ∷ 100 ∷ []) }
-{
-    output[0] = 114;
-    output[1] = 101;
-    output[2] = 102;
-    output[3] = 117;
-    output[4] = 115;
-    output[5] = 101;
-    output[6] = 100;
-}
-
+// Kept: 0 for a line that does not fit is what the function promises, and no function inside needs it as an Option.
 // Writes the refusal line at the front and returns its length; an output buffer that is too short is unchanged, and 0 is returned.
 pub fn write_refusal(number: u32, place: u32, output: &mut [u8]) -> usize
     ensures value { result ≡ printed_length (refusal_line number place) (length output.old) }
@@ -209,6 +180,6 @@ pub fn write_refusal(number: u32, place: u32, output: &mut [u8]) -> usize
     if output.len() < total {
         return 0;
     }
-    put_refused(output);
+    output[..7].copy_from_slice(b"refused");
     put_spaced(output, 7, &numbers)
 }

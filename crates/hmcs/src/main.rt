@@ -5,8 +5,8 @@ use std::io;
 use std::io::Write;
 
 fn print(rt: &impl Print, output: &[u8], length: usize) -> io::Result<()> {
-    if length <= output.len() {
-        io::writer(rt).write_all(&output[..length])?;
+    if let Some(printed) = output.get(..length) {
+        io::writer(rt).write_all(printed)?;
     }
     Ok(())
 }

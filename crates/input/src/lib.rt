@@ -7,6 +7,7 @@ ghost use Rattle.std.specs.Io.KnownBytes.{Consumes, IsAtEnd};
 use std::io;
 use std::io::Read;
 
+// Kept: a read gives as many bytes as it has, so no `for` counts the turns.
 // Reads until the buffer is full or the input ends; returns how many bytes it put at the front of the buffer. They are the input's next bytes, and fewer than the buffer has room for only if the input has ended.
 pub fn read_full<R: Read>(input: &mut R, buffer: &mut [u8]) -> io::Result<usize>
     ensures within { IfOk result (λ n. n ≤ length buffer.new) }

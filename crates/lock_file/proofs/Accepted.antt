@@ -9,10 +9,7 @@ use lib.Dec.{eqb}
 use lib.ListN.{length, replicate}
 use borrow.Author.Tests.{eqb-true, eqb-false}
 use Rattle.model.specs.declared.TreeWords.{TreeWords}
-use Rattle.lock_file.specs.declared.Reached.{Reached}
-use Rattle.lock_file.specs.declared.Reached.TheVariants.{At, Ended, BadMap}
-use Rattle.lock_file.specs.declared.ThreadsRead.{ThreadsRead}
-use Rattle.lock_file.specs.Reading.{domain_count, two_bytes, field_end, domains_at, domains_from, domains_read, threads_from, threads_after, threads_read, schedule_start, entries_at, described, reading_of}
+use Rattle.lock_file.specs.Reading.{Reached, At, Ended, BadMap, ThreadsRead, domain_count, two_bytes, field_end, domains_at, domains_from, domains_read, threads_from, threads_after, threads_read, schedule_start, entries_at, described, reading_of}
 use Rattle.lock_file.proofs.Positions.{field_within}
 
 -- an accepted reading

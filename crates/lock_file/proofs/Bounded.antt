@@ -1,5 +1,5 @@
 -- The result of reading a file without running it, case by case, and how many elements its schedule needs.
-use mathlib.Core.Path.{◌≡◌, refl, sym, ◌∙◌, ap}
+use mathlib.Core.Path.{◌≡◌, refl}
 use mathlib.Core.Bool.{Bool, true, false}
 use mathlib.Core.List.{List}
 use Prim.Native.Nat.{ℕ, ◌-◌, ◌/◌, ◌≤◌, ◌<◌}
@@ -8,10 +8,7 @@ use lib.Dec.{ltb}
 use lib.ListN.{length}
 use borrow.Author.Tests.{lt-ltb, le-ltb, ltb-false}
 use Rattle.model.specs.Refusals.{refusal}
-use Rattle.lock_file.specs.declared.Reached.{Reached}
-use Rattle.lock_file.specs.declared.Reached.TheVariants.{At, Ended, BadMap}
-use Rattle.lock_file.specs.declared.TreeRead.{TreeRead}
-use Rattle.lock_file.specs.Reading.{refused, described, reached_refusal, tree_read, entries_at, reading_of, file_read}
+use Rattle.lock_file.specs.Reading.{Reached, At, Ended, BadMap, refused, described, reached_refusal, tree_read, entries_at, reading_of, file_read}
 use Rattle.lock_file.specs.Answers.{bounded_read, reading_reply, read_answer, ScheduleRoomLaw}
 use Rattle.lock_file.proofs.Positions.{entries_length}
 use Rattle.lock_file.proofs.Within.{position, tree_position}
@@ -20,26 +17,26 @@ pub read_long : (bs : List ℕ) → 65536 < length bs → bounded_read bs ≡ re
 unfolding bounded_read
 read_long bs h = rw (lt-ltb 65536 (length bs) h)
 
-module _ (bs : List ℕ) (h : length bs ≤ 65536) (t : TreeRead) (read : t ≡ tree_read bs) where
-  pub read_at : (at : ℕ) → t.reached ≡ At at → bounded_read bs ≡ described t.tree (entries_at bs at)
+module _ (bs : List ℕ) (h : length bs ≤ 65536) where
+  pub read_at : (at : ℕ) → (tree_read bs).reached ≡ At at → bounded_read bs ≡ described (tree_read bs).tree (entries_at bs at)
   unfolding bounded_read file_read reading_of
-  read_at at e = rw (le-ltb 65536 (length bs) h, ← read, e)
+  read_at at e = rw (le-ltb 65536 (length bs) h, e)
 
-  pub read_ended : t.reached ≡ Ended → bounded_read bs ≡ refused (refusal 2 (length bs))
+  pub read_ended : (tree_read bs).reached ≡ Ended → bounded_read bs ≡ refused (refusal 2 (length bs))
   unfolding bounded_read file_read reading_of reached_refusal
-  read_ended e = rw (le-ltb 65536 (length bs) h, ← read, e)
+  read_ended e = rw (le-ltb 65536 (length bs) h, e)
 
-  pub read_bad : (p : ℕ) → t.reached ≡ BadMap p → bounded_read bs ≡ refused (refusal 3 p)
+  pub read_bad : (p : ℕ) → (tree_read bs).reached ≡ BadMap p → bounded_read bs ≡ refused (refusal 3 p)
   unfolding bounded_read file_read reading_of reached_refusal
-  read_bad p e = rw (le-ltb 65536 (length bs) h, ← read, e)
+  read_bad p e = rw (le-ltb 65536 (length bs) h, e)
 
-  pub place_within : (p : ℕ) → t.reached ≡ BadMap p → p ≤ length bs
-  unfolding position
-  place_within p e = rw (sym (ap (λ x. x.reached) read) ∙ e) at (tree_position bs)
+pub place_within : (bs : List ℕ) (p : ℕ) → (tree_read bs).reached ≡ BadMap p → p ≤ length bs
+unfolding position
+place_within bs p e = rw e at (tree_position bs)
 
-  pub start_within : (at : ℕ) → t.reached ≡ At at → at ≤ length bs
-  unfolding position
-  start_within at e = rw (sym (ap (λ x. x.reached) read) ∙ e) at (tree_position bs)
+pub start_within : (bs : List ℕ) (at : ℕ) → (tree_read bs).reached ≡ At at → at ≤ length bs
+unfolding position
+start_within bs at e = rw e at (tree_position bs)
 
 turns_within : (bs : List ℕ) → length bs ≤ 65536 → (r : Reached) → (reading_reply (reading_of bs r (tree_read bs).tree)).length ≤ 32768
 unfolding reading_reply reading_of entries_at

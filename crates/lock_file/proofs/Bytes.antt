@@ -7,8 +7,7 @@ use native.Mathlib.Numerals.{add-one}
 use lib.ListN.{length, drop, length-drop}
 use lib.Seq.{drop-cons}
 use borrow.Author.Tests.{lt-leb, le-ltb}
-use Rattle.lock_file.specs.declared.Reached.TheVariants.{At}
-use Rattle.lock_file.specs.Reading.{byte, field_end, entry_end}
+use Rattle.lock_file.specs.Reading.{At, byte, field_end, entry_end}
 
 -- a byte, and those after it
 pub next_byte : (bs : List ℕ) (at : ℕ) → at < length bs → drop at bs ≡ byte bs at ∷ drop (at + 1) bs

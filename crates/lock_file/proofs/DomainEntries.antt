@@ -7,9 +7,7 @@ use native.Mathlib.Omega.{arith}
 use native.Mathlib.Nat.{add-zero}
 use native.Mathlib.Decide.{ℕ_discrete}
 use lib.ListN.{length, get_or, drop, length-append}
-use Rattle.lock_file.specs.declared.Reached.TheVariants.{At, Ended, BadMap}
-use Rattle.lock_file.specs.declared.DomainsRead.{DomainsRead}
-use Rattle.lock_file.specs.Reading.{domain_end, parent_at, threshold_at, stored, domains_from}
+use Rattle.lock_file.specs.Reading.{At, Ended, BadMap, DomainsRead, domain_end, parent_at, threshold_at, stored, domains_from}
 use Rattle.lock_file.specs.Format.{DomainEntries, no_domain, next_domain}
 use Rattle.lock_file.proofs.Positions.{reached_cases, domain_then, domain_ended, domain_bad}
 use Rattle.lock_file.proofs.Stored.{stored_length, stored_here, stored_other, Outside, outside_next, outside_apart}

@@ -4,8 +4,7 @@ use mathlib.Core.List.{List, [], ◌∷◌, ◌++◌}
 use Prim.Native.Nat.{ℕ, zero, suc, ◌+◌, ◌≤◌}
 use native.Mathlib.Omega.{arith}
 use lib.ListN.{length, drop}
-use Rattle.lock_file.specs.declared.Reached.TheVariants.{At}
-use Rattle.lock_file.specs.Reading.{byte, domain_size, domain_end, parent_at, threshold_at}
+use Rattle.lock_file.specs.Reading.{At, byte, domain_size, domain_end, parent_at, threshold_at}
 use Rattle.lock_file.specs.Format.{DomainEntry, no_field, parent_only, threshold_only, both_fields}
 use Rattle.lock_file.proofs.Positions.{domain_within}
 use Rattle.lock_file.proofs.Bytes.{next_byte, starts, entry_reached}

@@ -10,13 +10,6 @@ use Rattle.lock_file.specs.Reading.{entries_from, entries_at, filled}
 use Rattle.lock_file.proofs.Positions.{entries_length}
 use Rattle.model.proofs.Storing.{sets_front}
 
--- there are no entries after the end of the file
-pub none_filled : (bs : List ℕ) (at : ℕ) (l : List ℕ) → length bs ≤ at → filled (entries_at bs at) l ≡ l
-unfolding filled entries_at entries_from
-none_filled bs at l h =
-    let none : (length bs - at) / 2 ≡ 0 = omega arith in
-    rw (none, le-ltb (length l) 0 (omega arith))
-
 pub short_filled :
     (bs : List ℕ) (at : ℕ) (l : List ℕ) → length l < (length bs - at) / 2 → filled (entries_at bs at) l ≡ l
 unfolding filled entries_at

@@ -9,10 +9,7 @@ use lib.ListN.{length, drop, replicate}
 use borrow.Author.Tests.{eq-eqb, ne_eqb}
 use Rattle.model.specs.declared.TreeWords.{TreeWords}
 use Rattle.model.proofs.Laws.Counters.{zeros}
-use Rattle.lock_file.specs.declared.Reached.TheVariants.{At}
-use Rattle.lock_file.specs.declared.DomainsRead.{DomainsRead}
-use Rattle.lock_file.specs.declared.ThreadsRead.{ThreadsRead}
-use Rattle.lock_file.specs.Reading.{domain_count, root_number, byte, two_bytes, field_end, domains_from, domains_read, threads_from, threads_after, threads_read, thread_count, schedule_start, tree_read, entries_at, described, reading_of, file_read}
+use Rattle.lock_file.specs.Reading.{At, DomainsRead, ThreadsRead, domain_count, root_number, byte, two_bytes, field_end, domains_from, domains_read, threads_from, threads_after, threads_read, thread_count, schedule_start, tree_read, entries_at, described, reading_of, file_read}
 use Rattle.lock_file.specs.Format.{FullRoom, Describes}
 use Rattle.lock_file.specs.ReadingLaws.{FormatLaw}
 use Rattle.lock_file.proofs.Bytes.{next_byte, starts, field_reached}

@@ -4,6 +4,7 @@ pub mod Positions
 pub mod Within
 pub mod Filling
 pub mod Bounded
+pub mod Results
 pub mod Bytes
 pub mod DomainEntry
 pub mod ThreadEntry

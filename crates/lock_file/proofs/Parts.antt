@@ -7,9 +7,7 @@ use native.Mathlib.Omega.{arith}
 use lib.Dec.{ltb, leb}
 use lib.ListN.{length, get_or-eq_default}
 use borrow.Author.Tests.{ltb-true, ltb-false, lt-ltb, leb-true, leb-false, lt-leb}
-use Rattle.lock_file.specs.declared.Reached.{Reached}
-use Rattle.lock_file.specs.declared.Reached.TheVariants.{At, Ended, BadMap}
-use Rattle.lock_file.specs.Reading.{byte, field_end, entry_end}
+use Rattle.lock_file.specs.Reading.{Reached, At, Ended, BadMap, byte, field_end, entry_end}
 use Rattle.lock_file.proofs.Positions.{field_within, entry_within, reached_cases}
 use Rattle.lock_file.proofs.Bytes.{field_reached, entry_reached}
 

@@ -9,9 +9,7 @@ use lib.Dec.{ltb, leb}
 use lib.ListN.{length, set}
 use lib.Seq.{sets}
 use borrow.Author.Tests.{ltb-false, leb-false}
-use Rattle.lock_file.specs.declared.Reached.{Reached}
-use Rattle.lock_file.specs.declared.Reached.TheVariants.{At, Ended, BadMap}
-use Rattle.lock_file.specs.Reading.{byte, field_end, entry_end, domain_size, domain_end, parent_at, threshold_at, stored, domains_at, domains_from, thread_end, home_at, threads_at, threads_from, two_bytes, entries_from}
+use Rattle.lock_file.specs.Reading.{Reached, At, Ended, BadMap, byte, field_end, entry_end, domain_size, domain_end, parent_at, threshold_at, stored, domains_at, domains_from, thread_end, home_at, threads_at, threads_from, two_bytes, entries_from}
 
 -- a field or an entry that ends at a position is within the file
 pub field_within :

@@ -13,9 +13,7 @@ use borrow.Author.Tests.{eq-eqb, eqb-false}
 use Rattle.model.specs.Refusals.{Refusal, refusal}
 use Rattle.model.specs.Laws.{◌⟺◌}
 use Rattle.model.proofs.Laws.Counters.{zeros}
-use Rattle.lock_file.specs.declared.Reached.{Reached}
-use Rattle.lock_file.specs.declared.Reached.TheVariants.{At, Ended, BadMap}
-use Rattle.lock_file.specs.Reading.{byte, schedule_start, tree_read, entries_at, reached_refusal, refused, described, reading_of, file_read}
+use Rattle.lock_file.specs.Reading.{Reached, At, Ended, BadMap, byte, schedule_start, tree_read, entries_at, reached_refusal, refused, described, reading_of, file_read}
 use Rattle.lock_file.specs.ReadingLaws.{FormatLaw, LockFile, Beginning, ReadingRefusalLaw}
 use Rattle.lock_file.proofs.Positions.{reached_cases}
 use Rattle.lock_file.proofs.Accepted.{reading_accepted}

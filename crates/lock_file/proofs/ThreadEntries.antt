@@ -7,9 +7,7 @@ use native.Mathlib.Omega.{arith}
 use native.Mathlib.Nat.{add-zero}
 use native.Mathlib.Decide.{ℕ_discrete}
 use lib.ListN.{length, get_or, drop, length-append}
-use Rattle.lock_file.specs.declared.Reached.TheVariants.{At, Ended, BadMap}
-use Rattle.lock_file.specs.declared.ThreadsRead.{ThreadsRead}
-use Rattle.lock_file.specs.Reading.{thread_end, home_at, stored, threads_from}
+use Rattle.lock_file.specs.Reading.{At, Ended, BadMap, ThreadsRead, thread_end, home_at, stored, threads_from}
 use Rattle.lock_file.specs.Format.{ThreadEntries, no_thread, next_thread}
 use Rattle.lock_file.proofs.Positions.{reached_cases, thread_then, thread_ended, thread_bad}
 use Rattle.lock_file.proofs.Within.{position, threads_position}

@@ -4,8 +4,7 @@ use mathlib.Core.List.{List, [], ◌∷◌, ◌++◌}
 use Prim.Native.Nat.{ℕ, zero, suc, ◌+◌, ◌%◌, ◌≤◌}
 use native.Mathlib.Omega.{arith}
 use lib.ListN.{length, drop}
-use Rattle.lock_file.specs.declared.Reached.TheVariants.{At}
-use Rattle.lock_file.specs.Reading.{byte, thread_end, home_at}
+use Rattle.lock_file.specs.Reading.{At, byte, thread_end, home_at}
 use Rattle.lock_file.specs.Format.{ThreadEntry, home_before, home_given}
 use Rattle.lock_file.proofs.Positions.{thread_within}
 use Rattle.lock_file.proofs.Bytes.{next_byte, starts, entry_reached}

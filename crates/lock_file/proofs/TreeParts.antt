@@ -6,9 +6,7 @@ use native.Mathlib.Omega.{arith}
 use native.Mathlib.Decide.{ℕ_discrete}
 use lib.ListN.{length, replicate}
 use borrow.Author.Tests.{lt-ltb, le-ltb, eq-eqb, ne_eqb}
-use Rattle.lock_file.specs.declared.Reached.{Reached}
-use Rattle.lock_file.specs.declared.Reached.TheVariants.{At, Ended, BadMap}
-use Rattle.lock_file.specs.Reading.{domain_count, byte, two_bytes, bit_0, field_end, domain_size, domain_end, parent_at, threshold_at, stored, domains_from, domains_read, thread_end, home_at, threads_from, threads_after, threads_read, schedule_start, tree_read}
+use Rattle.lock_file.specs.Reading.{Reached, At, Ended, BadMap, domain_count, byte, two_bytes, bit_0, field_end, domain_size, domain_end, parent_at, threshold_at, stored, domains_from, domains_read, thread_end, home_at, threads_from, threads_after, threads_read, schedule_start, tree_read}
 use Rattle.lock_file.proofs.Positions.{reached_cases, domain_then, domain_ended, domain_bad, thread_then, thread_ended, thread_bad}
 use Rattle.lock_file.proofs.Parts.{Part, PartReader, SameBefore, onward, entries_reader, counted_reader, counted_part, both_part}
 

@@ -8,9 +8,7 @@ use lib.Dec.{ltb, leb, eqb}
 use lib.ListN.{length, replicate}
 use borrow.Author.Tests.{ltb-false, leb-false, eqb-false}
 use Rattle.model.proofs.Tests.{by_test}
-use Rattle.lock_file.specs.declared.Reached.{Reached}
-use Rattle.lock_file.specs.declared.Reached.TheVariants.{At, Ended, BadMap}
-use Rattle.lock_file.specs.Reading.{domain_count, byte, two_bytes, field_end, entry_end, domain_size, domain_end, parent_at, threshold_at, stored, domains_at, domains_from, domains_read, thread_end, home_at, threads_from, threads_after, threads_read, schedule_start, tree_read}
+use Rattle.lock_file.specs.Reading.{Reached, At, Ended, BadMap, domain_count, byte, two_bytes, field_end, entry_end, domain_size, domain_end, parent_at, threshold_at, stored, domains_at, domains_from, domains_read, thread_end, home_at, threads_from, threads_after, threads_read, schedule_start, tree_read}
 use Rattle.lock_file.proofs.Positions.{reached_cases, domain_then, domain_ended, domain_bad, thread_then, thread_ended, thread_bad}
 
 -- the position reached, or the place of a bit map without a meaning

@@ -2,11 +2,28 @@
 use Rattle.std.specs.Prelude.{cond, List, [], ◌∷◌, ◌++◌, ℕ, zero, suc, ◌+◌, ◌*◌, ◌-◌, ◌/◌, ◌%◌, ltb, leb, eqb, length, get_or, set, drop, replicate}
 use Rattle.model.specs.declared.TreeWords.{TreeWords}
 use Rattle.model.specs.Refusals.{Refusal, refusal, accepted}
-use Rattle.lock_file.specs.declared.Reached.{Reached}
-use Rattle.lock_file.specs.declared.Reached.TheVariants.{At, Ended, BadMap}
-use Rattle.lock_file.specs.declared.DomainsRead.{DomainsRead}
-use Rattle.lock_file.specs.declared.ThreadsRead.{ThreadsRead}
-use Rattle.lock_file.specs.declared.TreeRead.{TreeRead}
+
+-- how far reading came: to a position; to the end of the file, inside a field or before one; or to a bit map with a bit that has no meaning
+pub data Reached : Type 0 where
+  At : (position : ℕ) → Reached
+  Ended : Reached
+  BadMap : (position : ℕ) → Reached
+
+-- the words of the domains, as many as the arrays hold
+pub record DomainsRead : Type 0 where
+  pub reached : Reached
+  pub parents : List ℕ
+  pub thresholds : List ℕ
+
+-- the homes of the threads, as many as the array holds
+pub record ThreadsRead : Type 0 where
+  pub reached : Reached
+  pub homes : List ℕ
+
+-- a tree, and where its schedule starts
+pub record TreeRead : Type 0 where
+  pub reached : Reached
+  pub tree : TreeWords
 
 -- the number and place of a reading that failed: 2 at the file's length, 3 at the bit map
 unfoldable pub reached_refusal : (bytes : List ℕ) → Reached → Refusal
@@ -71,7 +88,7 @@ abbrev pub domains_at : Reached → (parents thresholds : List ℕ) → DomainsR
 domains_at r ps hs = record { reached = r; parents = ps; thresholds = hs }
 
 -- the array with a word stored, if the index is below the array's length
-unfoldable pub stored : (room : ℕ) → (words : List ℕ) → (at word : ℕ) → List ℕ
+unfoldable pub stored : {A : Type 0} → (room : ℕ) → (words : List A) → (at : ℕ) → (word : A) → List A
 stored room ws k v = cond (ltb k room) (set ws k v) ws
 
 -- the entries of `left` domains, starting at a given one; 64 of them are stored

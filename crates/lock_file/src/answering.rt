@@ -1,46 +1,61 @@
 // What reading a lock file answers.
-ghost use Rattle.std.specs.Prelude.{◌≡◌, ◌≤◌, length};
+ghost use Rattle.std.specs.Prelude.{◌≡◌, ◌≤◌, length, IfOk};
 ghost use Rattle.model.specs.Refusals.{refusal};
-ghost use Rattle.lock_file.specs.Reading.{refused, described, entries_at, filled};
-ghost use Rattle.lock_file.specs.Answers.{reading_reply, read_answer, schedule_answer};
+ghost use Rattle.refusals.specs.Reasons.{number_of};
+ghost use Rattle.lock_file.specs.Reading.{reached_refusal, refused, described, entries_at, filled};
+ghost use Rattle.lock_file.specs.Answers.{bounded_read, reading_reply, read_answer, schedule_answer};
+ghost use Rattle.lock_file.specs.Results.{reached_of, reading_from};
 
-use crate::{Reached, ReadReply};
+use crate::{ReadError, ReadReply, TreeRead};
 use model::TreeWords;
+use refusals::reasons::{Reason, Refusal};
 
-fn refused_by(number: u32, place: u32) -> ReadReply
-    ensures { result ≡ reading_reply (refused (refusal number place)) }
+fn refused_by(r: Refusal) -> ReadReply
+    ensures { result ≡ reading_reply (refused (refusal (number_of r.reason) r.place)) }
 {
-    let tree = TreeWords {
-        domains: 0,
-        threads: 0,
-        parents: [0u8; 64],
-        thresholds: [0u16; 64],
-        homes: [0u8; 256],
-        ticket_root: 0,
-    };
     ReadReply {
-        number,
-        place,
+        number: r.number(),
+        place: r.place,
         length: 0,
-        tree,
+        tree: TreeWords {
+            domains: 0,
+            threads: 0,
+            parents: [0; 64],
+            thresholds: [0; 64],
+            homes: [0; 256],
+            ticket_root: 0,
+        },
+    }
+}
+
+pub(crate) fn bounded_tree_of(file: &[u8]) -> Result<TreeRead, Refusal>
+    ensures value { reading_from file.now result ≡ bounded_read file.now }
+    ensures start_within { IfOk result (λ r. r.start ≤ length file.now) }
+    ensures length_bound { IfOk result (λ r. length file.now ≤ 65536) }
+{
+    if 65536 < file.len() {
+        return Err(Reason::FileTooLong.at(0));
+    }
+    match crate::read_tree(file) {
+        Ok(read) => Ok(read),
+        Err(ReadError::FileCut) => Err(Reason::FileCut.at(file.len() as u32)),
+        Err(ReadError::FileBit(at)) => Err(Reason::FileBit.at(at as u32)),
     }
 }
 
 // The reply for a tree whose schedule starts at a position.
-fn described_at(file: &[u8], at: usize, tree: TreeWords, schedule: &mut [u16]) -> ReadReply
-    requires at_in_bounds { at ≤ length file.now }
+fn described_at(file: &[u8], read: TreeRead, schedule: &mut [u16]) -> ReadReply
+    requires start_in_bounds { read.start ≤ length file.now }
     requires file_len_bound { length file.now ≤ 65536 }
-    ensures value { result ≡ reading_reply (described tree (entries_at file.now at)) }
-    ensures schedule_after { schedule.new ≡ filled (entries_at file.now at) schedule.old }
+    ensures value { result ≡ reading_reply (described read.tree (entries_at file.now read.start)) }
+    ensures schedule_after { schedule.new ≡ filled (entries_at file.now read.start) schedule.old }
 {
-    let turns = (file.len() - at) / 2;
-    crate::read_schedule(file, at, schedule);
-    let length = casts::index_number(turns);
+    crate::read_schedule(file, read.start, schedule);
     ReadReply {
         number: 0,
         place: 0,
-        length,
-        tree,
+        length: ((file.len() - read.start) / 2) as u32,
+        tree: read.tree,
     }
 }
 
@@ -48,15 +63,8 @@ pub(crate) fn answer_file(file: &[u8], schedule: &mut [u16]) -> ReadReply
     ensures value { result ≡ read_answer file.now }
     ensures schedule_after { schedule.new ≡ schedule_answer file.now schedule.old }
 {
-    if 65536 < file.len() {
-        return refused_by(1, 0);
-    }
-    let read = crate::read_tree(file);
-    let reached = read.reached;
-    let tree = read.tree;
-    match reached {
-        Reached::At(at) => described_at(file, at, tree, schedule),
-        Reached::Ended => refused_by(2, casts::index_number(file.len())),
-        Reached::BadMap(p) => refused_by(3, casts::index_number(p)),
+    match bounded_tree_of(file) {
+        Ok(read) => described_at(file, read, schedule),
+        Err(r) => refused_by(r),
     }
 }

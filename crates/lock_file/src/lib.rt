@@ -7,40 +7,26 @@ pub mod file_writer;
 pub mod printed_listing;
 mod reading;
 
-ghost use Rattle.std.specs.Prelude.{◌≡◌};
-ghost use Rattle.lock_file.specs.Answers.{read_answer, schedule_answer};
+ghost use Rattle.std.specs.Prelude.{◌≡◌, ◌≤◌, length, IfOk};
+ghost use Rattle.lock_file.specs.Answers.{bounded_read, read_answer, schedule_answer};
 ghost use Rattle.lock_file.specs.Reading.{tree_read, entries_at, filled};
+ghost use Rattle.lock_file.specs.Results.{result_for, reading_from};
 
 use model::TreeWords;
+use refusals::reasons::Refusal;
 
-// How far reading came: to a position; to the end of the file, inside a field or before one; or to a bit map with a bit that has no meaning.
-#[derive(Clone, Copy)]
-pub enum Reached {
-    At(usize),
-    Ended,
-    BadMap(usize),
-}
-
-// The words of the domains, as many as the arrays hold.
-#[derive(Clone, Copy)]
-pub(crate) struct DomainsRead {
-    reached: Reached,
-    parents: [u8; 64],
-    thresholds: [u16; 64],
-}
-
-// The homes of the threads, as many as the array holds.
-#[derive(Clone, Copy)]
-pub(crate) struct ThreadsRead {
-    reached: Reached,
-    homes: [u8; 256],
+// Why reading stops: at the end of the file, inside a field or before one; or at a bit map with a bit that has no meaning, at this position.
+#[derive(Clone, Copy, PartialEq, Eq, Debug)]
+pub enum ReadError {
+    FileCut,
+    FileBit(usize),
 }
 
 // A tree, and where its schedule starts.
 #[derive(Clone, Copy)]
 pub struct TreeRead {
-    pub reached: Reached,
     pub tree: TreeWords,
+    pub start: usize,
 }
 
 // What reading a lock file returns. Number 0 means accepted; if refused, the length and all words of the tree are 0.
@@ -54,24 +40,29 @@ pub struct ReadReply {
 }
 
 // The whole file: the tree, and where the schedule starts.
-pub fn read_tree(file: &[u8]) -> TreeRead
-    ensures { result ≡ tree_read file.now }
+pub fn read_tree(file: &[u8]) -> Result<TreeRead, ReadError>
+    ensures { result ≡ result_for (tree_read file.now) }
 {
     reading::tree_of(file)
+}
+
+// The same, for a file of at most 65,536 bytes; refused by 1, 2 or 3.
+pub fn read_bounded(file: &[u8]) -> Result<TreeRead, Refusal>
+    ensures value { reading_from file.now result ≡ bounded_read file.now }
+    ensures start_within { IfOk result (λ r. r.start ≤ length file.now) }
+    ensures length_bound { IfOk result (λ r. length file.now ≤ 65536) }
+{
+    answering::bounded_tree_of(file)
 }
 
 // The schedule entries from a position on, at the front of a buffer; a buffer too short for them is unchanged.
 pub fn read_schedule(file: &[u8], at: usize, schedule: &mut [u16])
     ensures { schedule.new ≡ filled (entries_at file.now at) schedule.old }
 {
-    if file.len() <= at {
-        return;
+    let entries = file.len().saturating_sub(at) / 2;
+    if entries <= schedule.len() {
+        reading::read_entries(file, at, entries, schedule);
     }
-    let entries = (file.len() - at) / 2;
-    if schedule.len() < entries {
-        return;
-    }
-    reading::read_entries(file, at, entries, schedule);
 }
 
 // Reads a lock file without running it: the tree, the number of schedule entries, and the schedule at the front of a buffer; if refused, or if the buffer is too short, it is unchanged.

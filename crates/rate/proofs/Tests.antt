@@ -12,20 +12,19 @@ use Rattle.model.specs.Refusals.{Refusal, refusal, accepted, lowest_bad, first_r
 use Rattle.model.specs.Laws.{Numbered, RefusalLaw}
 use Rattle.model.proofs.Laws.Refusals.{refusal_law}
 use Rattle.rate.specs.declared.PassingTimes.{PassingTimes}
-use Rattle.rate.specs.declared.RateAnswer.{RateAnswer}
-use Rattle.rate.specs.declared.RateAnswer.TheVariants.{Rate, Refused}
+use Rattle.std.specs.Prelude.{Result, Ok, Err}
 use Rattle.rate.specs.Rate.{shortest_time, longest_time, is_time, passing_rate}
 use Rattle.rate.specs.Answers.{zero_threshold, bad_time, rate_tests, rate_refusal, answer_of, rate_answer}
 use Rattle.rate.specs.Laws.{InRange, TimeLaw, Accepted, AnswerLaw}
 
 -- the answer by the results of its tests, in their order: whether a threshold is 0, twice, and whether a time is in range, three times
-abbrev pub tested : (h1_zero h2_zero p1_good p2_good p3_good : Bool) → (rate : Float) → RateAnswer
-tested true b c d e x = Refused 8 1
-tested false true c d e x = Refused 8 2
-tested false false false d e x = Refused 24 1
-tested false false true false e x = Refused 24 2
-tested false false true true false x = Refused 24 3
-tested false false true true true x = Rate x
+abbrev pub tested : (h1_zero h2_zero p1_good p2_good p3_good : Bool) → (rate : Float) → Result Float Refusal
+tested true b c d e x = Err (refusal 8 1)
+tested false true c d e x = Err (refusal 8 2)
+tested false false false d e x = Err (refusal 24 1)
+tested false false true false e x = Err (refusal 24 2)
+tested false false true true false x = Err (refusal 24 3)
+tested false false true true true x = Ok x
 
 by_tests :
     (a b c d e : Bool) (x : Float) →
@@ -46,9 +45,9 @@ unfolding rate_answer rate_refusal rate_tests first_refusal lowest_bad zero_thre
 answer_tested h1 h2 p = by_tests (eqb h1 0) (eqb h2 0) (is_time p.p1) (is_time p.p2) (is_time p.p3) (passing_rate h1 h2 p)
 
 -- an answer that is a rate
-abbrev IsRate : RateAnswer → Type 0
-IsRate (Rate x) = Unit {0}
-IsRate (Refused n p) = ⊥
+abbrev IsRate : Result Float Refusal → Type 0
+IsRate (Ok x) = Unit {0}
+IsRate (Err r) = ⊥
 
 -- the results with which the answer is a rate
 pub record AllGood (a b c d e : Bool) : Type 0 where
@@ -58,7 +57,7 @@ pub record AllGood (a b c d e : Bool) : Type 0 where
   pub p2_good : d ≡ true
   pub p3_good : e ≡ true
 
-all_good : (a b c d e : Bool) (x y : Float) → tested a b c d e x ≡ Rate y → AllGood a b c d e × (x ≡ y)
+all_good : (a b c d e : Bool) (x y : Float) → tested a b c d e x ≡ Ok y → AllGood a b c d e × (x ≡ y)
 all_good true b c d e x y q = absurd (subst IsRate (sym q) tt)
 all_good false true c d e x y q = absurd (subst IsRate (sym q) tt)
 all_good false false false d e x y q = absurd (subst IsRate (sym q) tt)
@@ -69,9 +68,9 @@ all_good false false true true true x y q = (
   ap rate_in q,
 )
   where
-    rate_in : RateAnswer → Float
-    rate_in (Rate z) = z
-    rate_in (Refused n p) = x
+    rate_in : Result Float Refusal → Float
+    rate_in (Ok z) = z
+    rate_in (Err r) = x
 
 -- TIMES
 to_true : (b : Bool) → T b → b ≡ true
@@ -108,7 +107,7 @@ above_zero h e = let n = eqb-false h 0 e in omega arith
 not_zero : (h : ℕ) → 0 < h → eqb h 0 ≡ false
 not_zero h p = ne_eqb h 0 (λ e. omega arith)
 
-accepted_of : (h1 h2 : ℕ) (p : PassingTimes) (y : Float) → rate_answer h1 h2 p ≡ Rate y → Accepted h1 h2 p × (y ≡ passing_rate h1 h2 p)
+accepted_of : (h1 h2 : ℕ) (p : PassingTimes) (y : Float) → rate_answer h1 h2 p ≡ Ok y → Accepted h1 h2 p × (y ≡ passing_rate h1 h2 p)
 accepted_of h1 h2 p y q =
     let g =
     all_good (eqb h1 0) (eqb h2 0) (is_time p.p1) (is_time p.p2) (is_time p.p3) (passing_rate h1 h2 p) y
@@ -123,21 +122,21 @@ accepted_of h1 h2 p y q =
       sym g.1,
     )
 
-rate_accepted : (h1 h2 : ℕ) (p : PassingTimes) → Accepted h1 h2 p → rate_answer h1 h2 p ≡ Rate (passing_rate h1 h2 p)
+rate_accepted : (h1 h2 : ℕ) (p : PassingTimes) → Accepted h1 h2 p → rate_answer h1 h2 p ≡ Ok (passing_rate h1 h2 p)
 rate_accepted h1 h2 p g =
     rw (answer_tested h1 h2 p, not_zero h1 g.h1_above_zero, not_zero h2 g.h2_above_zero, is_time_of p.p1 g.p1_in_range, is_time_of p.p2 g.p2_in_range, is_time_of p.p3 g.p3_in_range)
 
 -- a refusal is answered with its own number and place
-refused_of : (b : Bool) (r : Refusal) (x : Float) (n q : ℕ) → eqb r.number 0 ≡ b → answer_of r x ≡ Refused n q → r ≡ refusal n q
+refused_of : (b : Bool) (r : Refusal) (x : Float) (n q : ℕ) → eqb r.number 0 ≡ b → answer_of r x ≡ Err (refusal n q) → r ≡ refusal n q
 unfolding answer_of refusal
 refused_of true r x n q e a = absurd (subst IsRate (rw e at a) tt)
 refused_of false r x n q e a = ap refusal_in (rw e at a)
   where
-    refusal_in : RateAnswer → Refusal
-    refusal_in (Rate y) = accepted
-    refusal_in (Refused m k) = record { number = m; place = k }
+    refusal_in : Result Float Refusal → Refusal
+    refusal_in (Ok y) = accepted
+    refusal_in (Err m) = m
 
-answer_refused : (r : Refusal) (x : Float) (n q : ℕ) → 0 < n → r ≡ refusal n q → answer_of r x ≡ Refused n q
+answer_refused : (r : Refusal) (x : Float) (n q : ℕ) → 0 < n → r ≡ refusal n q → answer_of r x ≡ Err (refusal n q)
 unfolding answer_of refusal
 answer_refused r x n q h e = rw (e, not_zero n h)
 

@@ -1,10 +1,10 @@
 -- Document 02, (xiii): when a rate is refused, what is answered, and the answer as numbers.
-use Rattle.std.specs.Prelude.{ℕ, zero, suc, Bool, false, not, cond, List, [], ◌∷◌, eqb, pos, Float}
+use Rattle.std.specs.Prelude.{ℕ, zero, suc, Bool, false, not, cond, List, [], ◌∷◌, eqb, pos, Float, Result, Ok, Err}
 use Rattle.std.specs.Float.{fin}
-use Rattle.model.specs.Refusals.{Refusal, Test, test, first_refusal}
+use Rattle.model.specs.Refusals.{Refusal, refusal, Test, test, first_refusal}
 use Rattle.rate.specs.declared.PassingTimes.{PassingTimes}
-use Rattle.rate.specs.declared.RateAnswer.{RateAnswer}
-use Rattle.rate.specs.declared.RateAnswer.TheVariants.{Rate, Refused}
+use Rattle.refusals.specs.Reasons.{number_of}
+use Rattle.refusals.specs.declared.reasons.Refusal as reasons
 use Rattle.rate.specs.declared.RateReply.{RateReply}
 use Rattle.rate.specs.Rate.{is_time, passing_rate}
 
@@ -30,14 +30,19 @@ unfoldable pub rate_refusal : (h1 h2 : ℕ) → PassingTimes → Refusal
 rate_refusal h1 h2 p = first_refusal (rate_tests h1 h2 p)
 
 -- the answer: the rate, or a refusal
-unfoldable pub answer_of : Refusal → (rate : Float) → RateAnswer
-answer_of r x = cond (eqb r.number 0) (Rate x) (Refused r.number r.place)
+unfoldable pub answer_of : Refusal → (rate : Float) → Result Float Refusal
+answer_of r x = cond (eqb r.number 0) (Ok x) (Err r)
 
 -- what the call answers
-unfoldable pub rate_answer : (h1 h2 : ℕ) → PassingTimes → RateAnswer
+unfoldable pub rate_answer : (h1 h2 : ℕ) → PassingTimes → Result Float Refusal
 rate_answer h1 h2 p = answer_of (rate_refusal h1 h2 p) (passing_rate h1 h2 p)
 
+-- the answer, from what the code returns
+abbrev pub answer_from : Result Float reasons.Refusal → Result Float Refusal
+answer_from (Ok x) = Ok x
+answer_from (Err r) = Err (refusal (number_of r.reason) r.place)
+
 -- the answer as numbers: number, place, and the rate, which is 0 if refused
-abbrev pub reply_of : RateAnswer → RateReply
-reply_of (Rate x) = record { number = 0; place = 0; rate = x }
-reply_of (Refused n p) = record { number = n; place = p; rate = fin false 0 (pos 0) }
+abbrev pub reply_of : Result Float Refusal → RateReply
+reply_of (Ok x) = record { number = 0; place = 0; rate = x }
+reply_of (Err r) = record { number = r.number; place = r.place; rate = fin false 0 (pos 0) }

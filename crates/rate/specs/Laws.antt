@@ -1,12 +1,12 @@
 -- THE LAWS OF THE RATE. These are statements; their proofs are in proofs/.
-use Rattle.std.specs.Prelude.{◌≡◌, true, false, ℕ, ◌+◌, ◌*◌, ◌^◌, ◌≤◌, ◌<◌, T, pos, Float}
+use Rattle.std.specs.Prelude.{◌≡◌, true, false, ℕ, ◌+◌, ◌*◌, ◌^◌, ◌≤◌, ◌<◌, T, pos, Float, Ok, Err}
 use Rattle.std.specs.Float.{fin, binary64}
 use Rattle.std.specs.Float.Ieee.{round, div, fits, of_bits, to_bits}
 use Rattle.std.specs.Float.Ieee.Exact.{HasValue}
 use Rattle.std.specs.Float.Ieee.Positive.{positive, num, den}
 use Rattle.model.specs.Laws.{◌⟺◌, Refuses, RefusesExactly}
 use Rattle.rate.specs.declared.PassingTimes.{PassingTimes}
-use Rattle.rate.specs.declared.RateAnswer.TheVariants.{Rate, Refused}
+use Rattle.model.specs.Refusals.{refusal}
 use Rattle.rate.specs.Rate.{is_time, entries, p2_passes, p1_passes, as_float, p2_product, p1_product, outer_time, cycle_time, passing_rate}
 use Rattle.rate.specs.Answers.{rate_tests, rate_answer}
 
@@ -31,9 +31,9 @@ pub record Accepted (h1 h2 : ℕ) (p : PassingTimes) : Type 0 where
 -- 2. ANSWERS. The general law of refusals covers the list of tests; the answer is a refusal exactly if the tests refuse with its number and place, and it is this rate exactly if every input is in its range
 pub record AnswersExactly (h1 h2 : ℕ) (p : PassingTimes) : Type 0 where
   pub refuses : RefusesExactly (rate_tests h1 h2 p)
-  pub refused : (n q : ℕ) → 0 < n → (rate_answer h1 h2 p ≡ Refused n q) ⟺ Refuses (rate_tests h1 h2 p) n q
-  pub accepts : (rate_answer h1 h2 p ≡ Rate (passing_rate h1 h2 p)) ⟺ Accepted h1 h2 p
-  pub no_other : (x : Float) → rate_answer h1 h2 p ≡ Rate x → x ≡ passing_rate h1 h2 p
+  pub refused : (n q : ℕ) → 0 < n → (rate_answer h1 h2 p ≡ Err (refusal n q)) ⟺ Refuses (rate_tests h1 h2 p) n q
+  pub accepts : (rate_answer h1 h2 p ≡ Ok (passing_rate h1 h2 p)) ⟺ Accepted h1 h2 p
+  pub no_other : (x : Float) → rate_answer h1 h2 p ≡ Ok x → x ≡ passing_rate h1 h2 p
 
 -- for every input
 unfoldable pub AnswerLaw : Type 0

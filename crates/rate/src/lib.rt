@@ -3,7 +3,9 @@
 
 ghost use Rattle.std.specs.Prelude.{◌≡◌, ◌<◌};
 ghost use Rattle.rate.specs.Rate.{is_time, passing_rate};
-ghost use Rattle.rate.specs.Answers.{rate_answer, reply_of};
+ghost use Rattle.rate.specs.Answers.{answer_from, rate_answer, reply_of};
+
+use refusals::reasons::{Reason, Refusal};
 
 // How long it takes to pass the lock on: p1 within a home, p2 between homes below one domain, p3 across the root, all in one unit.
 #[repr(C)]
@@ -14,14 +16,7 @@ pub struct PassingTimes {
     pub p3: f64,
 }
 
-// A rate, in entries per unit of the times, or a refusal.
-#[derive(Clone, Copy)]
-pub enum RateAnswer {
-    Rate(f64),
-    Refused { number: u32, place: u32 },
-}
-
-// The same as numbers: 0 and 0 with the rate; if refused, number and place with rate 0.
+// A rate, in entries per unit of the times, or a refusal, as numbers: 0 and 0 with the rate; if refused, number and place with rate 0.
 #[repr(C)]
 #[derive(Clone, Copy)]
 pub struct RateReply {
@@ -34,11 +29,7 @@ pub struct RateReply {
 fn in_range(x: f64) -> bool
     ensures { result ≡ is_time x }
 {
-    if x >= 0.0009765625 {
-        x <= 1048576.0
-    } else {
-        false
-    }
+    x >= 0.0009765625 && x <= 1048576.0
 }
 
 // The whole-number parts are exact in 32 bits and as floats; then each operation rounds once, in the order of the lines.
@@ -59,55 +50,40 @@ fn rate_of(h1: u16, h2: u16, times: PassingTimes) -> f64
 }
 
 // The rate, or 8 for a threshold of 0, or 24 for a time out of range.
-pub fn rate(h1: u16, h2: u16, times: PassingTimes) -> RateAnswer
-    ensures { result ≡ rate_answer h1 h2 times }
+pub fn rate(h1: u16, h2: u16, times: PassingTimes) -> Result<f64, Refusal>
+    ensures { answer_from result ≡ rate_answer h1 h2 times }
 {
     if h1 == 0 {
-        return RateAnswer::Refused {
-            number: 8,
-            place: 1,
-        };
+        return Err(Reason::NoThreshold.at(1));
     }
     if h2 == 0 {
-        return RateAnswer::Refused {
-            number: 8,
-            place: 2,
-        };
+        return Err(Reason::NoThreshold.at(2));
     }
     if !in_range(times.p1) {
-        return RateAnswer::Refused {
-            number: 24,
-            place: 1,
-        };
+        return Err(Reason::BadTime.at(1));
     }
     if !in_range(times.p2) {
-        return RateAnswer::Refused {
-            number: 24,
-            place: 2,
-        };
+        return Err(Reason::BadTime.at(2));
     }
     if !in_range(times.p3) {
-        return RateAnswer::Refused {
-            number: 24,
-            place: 3,
-        };
+        return Err(Reason::BadTime.at(3));
     }
-    RateAnswer::Rate(rate_of(h1, h2, times))
+    Ok(rate_of(h1, h2, times))
 }
 
-// An answer as numbers, for a caller that cannot take an enum.
-pub fn reply(answer: RateAnswer) -> RateReply
-    ensures { result ≡ reply_of answer }
+// An answer as numbers, for a caller that cannot take a Result.
+pub fn reply(answer: Result<f64, Refusal>) -> RateReply
+    ensures { result ≡ reply_of (answer_from answer) }
 {
     match answer {
-        RateAnswer::Rate(x) => RateReply {
+        Ok(rate) => RateReply {
             number: 0,
             place: 0,
-            rate: x,
+            rate,
         },
-        RateAnswer::Refused { number, place } => RateReply {
-            number,
-            place,
+        Err(refusal) => RateReply {
+            number: refusal.number(),
+            place: refusal.place,
             rate: 0.0,
         },
     }

@@ -1,5 +1,4 @@
 -- What several proofs use.
 pub mod Moving
-pub mod Homes
+pub mod Limits
 pub mod Parts
-pub mod Answering

@@ -1,34 +1,36 @@
 // The bytes of a text, and its numbers.
-ghost use Rattle.std.specs.Prelude.{◌≡◌, ◌*◌, ◌-◌, ◌≤◌, get_or};
-ghost use Rattle.text_tree.specs.Words.{least};
-ghost use Rattle.text_tree.specs.Reading.{is_digit, is_first_digit, grown, grows};
-ghost use Rattle.text_tree_call.specs.Inner.{CountRead, CountEnded, ThresholdRead, ThresholdEnded};
+ghost use Rattle.std.specs.Prelude.{◌≡◌, ◌<◌, ◌≤◌, get_or};
+ghost use Rattle.text_tree.specs.Reading.{grown, grows};
+ghost use Rattle.text_tree_call.specs.Inner.{Passed, FirstDigit, CountRead, ThresholdRead};
 
-use crate::Number;
+use crate::Stuck;
 
 // The byte at a position; 0, which no text contains, after the end of the text.
 pub(crate) fn byte_at(text: &[u8], at: usize) -> u8
     ensures { result ≡ get_or text.now at 0 }
 {
-    if at < text.len() { text[at] } else { 0 }
+    text.get(at).copied().unwrap_or(0)
 }
 
-fn is_digit_byte(b: u8) -> bool
-    ensures { result ≡ is_digit b }
+// The position after this byte.
+pub(crate) fn pass(text: &[u8], at: usize, byte: u8) -> Result<usize, Stuck>
+    requires { 0 < byte }
+    ensures { Passed text.now at byte result }
 {
-    if b < 48 {
-        return false;
+    if byte_at(text, at) != byte {
+        return Err(Stuck(at));
     }
-    b < 58
+    Ok(at + 1)
 }
 
-fn is_first_digit_byte(b: u8) -> bool
-    ensures { result ≡ is_first_digit b }
+// The value of a digit other than 0.
+fn first_digit(text: &[u8], at: usize) -> Result<u32, Stuck>
+    ensures { FirstDigit text.now at result }
 {
-    if b < 49 {
-        return false;
+    match byte_at(text, at) {
+        b @ b'1'..=b'9' => Ok(u32::from(b - b'0')),
+        _ => Err(Stuck(at)),
     }
-    b < 58
 }
 
 // A number with one more digit.
@@ -37,17 +39,7 @@ fn grow(number: u32, b: u8) -> u32
     requires le_b { 48 ≤ b }
     ensures { result ≡ grown number b }
 {
-    10 * number + casts::byte_number(b - 48)
-}
-
-// A count with one more digit; counts above 257 become 257.
-fn grow_count(number: u32, b: u8) -> u32
-    requires number_bound { number ≤ 257 }
-    requires le_b { 48 ≤ b }
-    ensures { result ≡ least 257 (grown number b) }
-{
-    let more = grow(number, b);
-    if more < 257 { more } else { 257 }
+    10 * number + u32::from(b - b'0')
 }
 
 // Whether a threshold with one more digit is still at most 65,535.
@@ -55,58 +47,36 @@ fn grows_with(number: u32, b: u8) -> bool
     requires { number ≤ 65535 }
     ensures { result ≡ grows number b }
 {
-    if !is_digit_byte(b) {
-        return false;
-    }
-    grow(number, b) < 65536
+    b.is_ascii_digit() && grow(number, b) < 65536
 }
 
-// The remaining digits of a thread count.
-fn read_more_count(text: &[u8], start: usize, first: u32) -> Number
-    requires { first ≤ 257 }
-    ensures { CountEnded text.now start first result }
-{
-    let mut at = start;
-    let mut number = first;
-    while is_digit_byte(byte_at(text, at)) {
-        number = grow_count(number, byte_at(text, at));
-        at += 1;
-    }
-    Number::Value(at, number)
-}
-
-// A thread count, from after `#`.
-pub(crate) fn read_count(text: &[u8], at: usize) -> Number
+// A thread count, from after `#`: the position after it, and the count; counts above 257 become 257.
+pub(crate) fn read_count(text: &[u8], at: usize) -> Result<(usize, u32), Stuck>
     ensures { CountRead text.now at result }
 {
-    let b = byte_at(text, at);
-    if !is_first_digit_byte(b) {
-        return Number::Stopped(at);
+    let mut number = first_digit(text, at)?;
+    for i in at + 1..text.len() {
+        let b = text[i];
+        if !b.is_ascii_digit() {
+            return Ok((i, number));
+        }
+        number = grow(number, b).min(257);
     }
-    read_more_count(text, at + 1, casts::byte_number(b - 48))
+    Ok((text.len(), number))
 }
 
-// The remaining digits of a threshold, as long as it is at most 65,535.
-fn read_more_threshold(text: &[u8], start: usize, first: u32) -> Number
-    requires { first ≤ 65535 }
-    ensures { ThresholdEnded text.now start first result }
-{
-    let mut at = start;
-    let mut number = first;
-    while grows_with(number, byte_at(text, at)) {
-        number = grow(number, byte_at(text, at));
-        at += 1;
-    }
-    Number::Value(at, number)
-}
-
-// A threshold.
-pub(crate) fn read_threshold(text: &[u8], at: usize) -> Number
+// Kept: a count is capped where a threshold stops, so one loop for both would take each rule as a closure, and is no plainer.
+// A threshold, as long as it is at most 65,535: the position after it, and the threshold.
+pub(crate) fn read_threshold(text: &[u8], at: usize) -> Result<(usize, u16), Stuck>
     ensures { ThresholdRead text.now at result }
 {
-    let b = byte_at(text, at);
-    if !is_first_digit_byte(b) {
-        return Number::Stopped(at);
+    let mut number = first_digit(text, at)?;
+    for i in at + 1..text.len() {
+        let b = text[i];
+        if !grows_with(number, b) {
+            return Ok((i, number as u16));
+        }
+        number = grow(number, b);
     }
-    read_more_threshold(text, at + 1, casts::byte_number(b - 48))
+    Ok((text.len(), number as u16))
 }

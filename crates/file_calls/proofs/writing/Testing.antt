@@ -7,19 +7,17 @@ use lib.ListN.{length}
 use borrow.Author.Tests.{ltb-false}
 use Rattle.model.specs.declared.TreeWords.{TreeWords}
 use Rattle.model.specs.Trees.{Tree, tree_of}
-use Rattle.model.specs.Refusals.{first_refusal, bad_length, bad_entry, schedule_tests, tree_refusal}
+use Rattle.model.specs.Refusals.{Refusal, first_refusal, bad_length, bad_entry, schedule_tests, tree_refusal}
 use Rattle.model.proofs.Refusing.{tests_pass}
-use Rattle.refusals.specs.declared.Refusal.{Refusal}
-use Rattle.refusals.specs.Arrays.{refusal_words, threads_in, schedule_room_tests}
+use Rattle.refusals.specs.Arrays.{threads_in, schedule_room_tests}
 use Rattle.schedules.proofs.Alone.{schedule_decides, alone_decides}
 
 -- the code tests a schedule with a trace buffer of the schedule's length, so 13 refuses nothing
-pub schedule_refusal_words :
-    (w : TreeWords) (is : List ℕ) (s : Refusal) → (tree_refusal (tree_of w)).number ≡ 0 →
-    s ≡ refusal_words (first_refusal (schedule_room_tests (threads_in w.threads) is (length is))) → s ≡ refusal_words (first_refusal (schedule_tests (tree_of w) is))
+pub schedule_tested :
+    (w : TreeWords) (is : List ℕ) (q : Refusal) → (tree_refusal (tree_of w)).number ≡ 0 →
+    q ≡ first_refusal (schedule_room_tests (threads_in w.threads) is (length is)) → q ≡ first_refusal (schedule_tests (tree_of w) is)
 unfolding bad_entry tree_of
-schedule_refusal_words w is s ok e =
-    e ∙ ap refusal_words (sym (schedule_decides w ok is (length is)) ∙ alone_decides w ok is (length is) (omega arith))
+schedule_tested w is q ok e = e ∙ sym (schedule_decides w ok is (length is)) ∙ alone_decides w ok is (length is) (omega arith)
 
 -- a schedule that passes 11 is short
 pub short_schedule : (t : Tree) (is : List ℕ) → (first_refusal (schedule_tests t is)).number ≡ 0 → length is ≤ 65536

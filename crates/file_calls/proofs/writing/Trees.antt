@@ -1,51 +1,46 @@
 -- A tree stored part by part is the written tree.
 use mathlib.Core.Path.{◌≡◌, sym, ◌∙◌}
-use mathlib.Core.List.{List, [], ◌++◌}
-use Prim.Native.Nat.{ℕ, ◌+◌, ◌-◌, ◌≤◌}
+use mathlib.Core.List.{List, ◌++◌}
+use Prim.Native.Nat.{ℕ, ◌+◌, ◌≤◌, ◌<◌}
 use native.Mathlib.Omega.{arith}
-use lib.ListN.{length, set, drop}
+use lib.ListN.{length, set, drop, get_or}
 use lib.Seq.{sets}
 use Rattle.model.specs.declared.TreeWords.{TreeWords}
 use Rattle.model.specs.Trees.{Tree, tree_of}
 use Rattle.model.proofs.Storing.{sets_append, sets_front}
-use Rattle.refusals.specs.Arrays.{tree_in}
-use Rattle.lock_file.specs.FileWriter.Writing.{low_first_bytes, written_domains, written_threads, written_schedule, first_byte, written_tree, written_file}
+use native.Mathlib.Nat.{mod-eq_of_lt}
+use Rattle.model.proofs.Trees.Reading.{read_in}
+use Rattle.lock_file.specs.FileWriter.Writing.{low_first_bytes, domains_of, threads_of, written_schedule, first_byte, written_tree, written_file}
 use Rattle.lock_file.proofs.file_writer.Lengths.{tree_length}
 
-abbrev pub domains_of : TreeWords → List ℕ
-domains_of w = written_domains (tree_of w).parent (tree_of w).threshold (w.domains - 1) 1
+pub parts_length : (t : Tree) → length (written_tree t) ≡ 3 + length (domains_of t) + length (threads_of t)
+parts_length t = tree_length t
 
-abbrev pub threads_of : TreeWords → List ℕ
-threads_of w = written_threads (tree_of w).home w.threads 0 0
-
-pub parts_length : (w : TreeWords) → length (written_tree (tree_of w)) ≡ 3 + length (domains_of w) + length (threads_of w)
+-- what the code reads from the arrays is the tree's
+pub parent_read : (w : TreeWords) (d : ℕ) → 0 < d → d < w.domains → (tree_of w).parent d ≡ get_or w.parents d 0
 unfolding tree_of
-parts_length w = tree_length (tree_of w)
+parent_read w d p q = read_in 1 w.domains w.parents d (omega arith) q
 
--- what the code writes from the arrays is what the definition gives for the tree
-module _ (w : TreeWords) (n : ℕ) where
-  pub domains_same :
-      n ≡ w.domains →
-      written_domains (tree_in n 0 w.parents w.thresholds []).parent (tree_in n 0 w.parents w.thresholds []).threshold (n - 1) 1
-      ≡ domains_of w
-  unfolding tree_of
-  domains_same e = rw e
+pub threshold_read :
+    (w : TreeWords) (d : ℕ) → 0 < d → d < w.domains → get_or w.thresholds d 0 < 65536 → (tree_of w).threshold d ≡ get_or w.thresholds d 0
+unfolding tree_of
+threshold_read w d p q f = rw (read_in 1 w.domains w.thresholds d (omega arith) q) (mod-eq_of_lt f)
 
-  pub threads_same : n ≡ w.threads → written_threads (tree_in 0 n [] [] w.homes).home n 0 0 ≡ threads_of w
-  unfolding tree_of
-  threads_same e = rw e
+pub home_read : (w : TreeWords) (i : ℕ) → i < w.threads → (tree_of w).home i ≡ get_or w.homes i 0
+unfolding tree_of
+home_read w i q = read_in 0 w.threads w.homes i (omega arith) q
 
 pub tree_stored :
-    (w : TreeWords) (l : List ℕ) →
-    sets (sets (sets (set l 0 (first_byte (tree_of w))) 1 (domains_of w)) (1 + length (domains_of w)) (low_first_bytes w.threads))
-    (1 + length (domains_of w) + 2) (threads_of w)
-    ≡ sets l 0 (written_tree (tree_of w))
-unfolding written_tree tree_of
-tree_stored w l =
-    let front = set l 0 (first_byte (tree_of w)) in
+    (t : Tree) (l : List ℕ) →
+    sets (sets (sets (set l 0 (first_byte t)) 1 (domains_of t)) (1 + length (domains_of t)) (low_first_bytes t.threads))
+    (1 + length (domains_of t) + 2) (threads_of t)
+    ≡ sets l 0 (written_tree t)
+unfolding written_tree
+tree_stored t l =
+    let front = set l 0 (first_byte t) in
     sym
-    (sets_append front 1 (domains_of w) (low_first_bytes w.threads ++ threads_of w)
-    ∙ sets_append (sets front 1 (domains_of w)) (1 + length (domains_of w)) (low_first_bytes w.threads) (threads_of w))
+    (sets_append front 1 (domains_of t) (low_first_bytes t.threads ++ threads_of t)
+    ∙ sets_append (sets front 1 (domains_of t)) (1 + length (domains_of t)) (low_first_bytes t.threads) (threads_of t))
 
 -- the tree and then the schedule: the file at the front of the buffer
 pub file_stored :

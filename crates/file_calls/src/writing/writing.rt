@@ -1,9 +1,8 @@
 // Writes a lock file from left to right, into a buffer that is long enough.
-ghost use Rattle.std.specs.Prelude.{◌≡◌, [], ◌+◌, ◌-◌, ◌*◌, ◌<◌, ◌≤◌, length};
+ghost use Rattle.std.specs.Prelude.{◌≡◌, ◌+◌, ◌*◌, ◌<◌, ◌≤◌, length};
 ghost use Rattle.std.proofs.lemmas.List.Edits.{sets};
 ghost use Rattle.model.specs.Trees.{tree_of};
-ghost use Rattle.refusals.specs.Arrays.{tree_in};
-ghost use Rattle.lock_file.specs.FileWriter.Writing.{low_first_bytes, written_domain, written_domains, written_thread, written_threads, written_schedule, first_byte, written_tree};
+ghost use Rattle.lock_file.specs.FileWriter.Writing.{low_first_bytes, written_domain, domains_of, written_thread, threads_of, written_schedule, first_byte, written_tree};
 
 use model::TreeWords;
 
@@ -16,11 +15,11 @@ fn put_two_bytes(buffer: &mut [u8], at: usize, value: u16) -> usize
     ensures value { result ≡ at + 2 }
     ensures buffer_after { buffer.new ≡ sets buffer.old at (low_first_bytes value) }
 {
-    buffer[at] = (value % 256) as u8;
-    buffer[at + 1] = (value / 256) as u8;
+    buffer[at..at + 2].copy_from_slice(&value.to_le_bytes());
     at + 2
 }
 
+// Kept: one branch for each of the format's four kinds of entry is plainer than a position that moves.
 // Writes a domain's entry at a position, with a bit set only if a value differs from its default; returns the position after it.
 fn put_domain(buffer: &mut [u8], at: usize, parent: u8, threshold: u16) -> usize
     requires { at + length (written_domain parent threshold) ≤ length buffer.old }
@@ -46,27 +45,15 @@ fn put_domain(buffer: &mut [u8], at: usize, parent: u8, threshold: u16) -> usize
 }
 
 // Writes the entries of the domains 1 to D - 1 at a position; returns the position after them.
-fn put_domains<'a>(
-    buffer: &mut [u8],
-    start: usize,
-    parents: &'a [u8; 64],
-    thresholds: &'a [u16; 64],
-    domains: usize,
-) -> usize
-    requires domains_nonzero { (0 < domains) × (domains ≤ 64) }
-    requires domains_in_bounds { let t = tree_in domains 0 parents.now thresholds.now [] in
-        start + length (written_domains t.parent t.threshold (domains - 1) 1) ≤ length buffer.old }
-    ensures result_value { let t = tree_in domains 0 parents.now thresholds.now [] in
-        result ≡ start + length (written_domains t.parent t.threshold (domains - 1) 1) }
-    ensures buffer_after { let t = tree_in domains 0 parents.now thresholds.now [] in
-        buffer.new ≡ sets buffer.old start (written_domains t.parent t.threshold (domains - 1) 1) }
+fn put_domains(buffer: &mut [u8], start: usize, tree: &TreeWords) -> usize
+    requires domains_nonzero { (0 < tree.now.domains) × (tree.now.domains ≤ 64) }
+    requires domains_in_bounds { start + length (domains_of (tree_of tree.now)) ≤ length buffer.old }
+    ensures value { result ≡ start + length (domains_of (tree_of tree.now)) }
+    ensures buffer_after { buffer.new ≡ sets buffer.old start (domains_of (tree_of tree.now)) }
 {
     let mut at = start;
-    let mut d = 1;
-    while d < domains {
-        let threshold = casts::of_16_bits(thresholds[d]);
-        at = put_domain(buffer, at, parents[d], threshold);
-        d += 1;
+    for d in 1..tree.domains as usize {
+        at = put_domain(buffer, at, tree.parents[d], tree.thresholds[d]);
     }
     at
 }
@@ -87,58 +74,46 @@ fn put_thread(buffer: &mut [u8], at: usize, before: u8, home: u8) -> usize
 }
 
 // Writes the entries of the threads 0 to T - 1 at a position; returns the position after them.
-fn put_threads(buffer: &mut [u8], start: usize, homes: &[u8; 256], threads: usize) -> usize
-    requires threads_bound { threads ≤ 256 }
-    requires threads_in_bounds { start + length (written_threads (tree_in 0 threads [] [] homes.now).home threads 0 0) ≤ length buffer.old }
-    ensures value { result ≡ start + length (written_threads (tree_in 0 threads [] [] homes.now).home threads 0 0) }
-    ensures buffer_after { buffer.new ≡ sets buffer.old start (written_threads (tree_in 0 threads [] [] homes.now).home threads 0 0) }
+fn put_threads(buffer: &mut [u8], start: usize, tree: &TreeWords) -> usize
+    requires threads_bound { tree.now.threads ≤ 256 }
+    requires threads_in_bounds { start + length (threads_of (tree_of tree.now)) ≤ length buffer.old }
+    ensures value { result ≡ start + length (threads_of (tree_of tree.now)) }
+    ensures buffer_after { buffer.new ≡ sets buffer.old start (threads_of (tree_of tree.now)) }
 {
     let mut at = start;
     let mut before = 0;
-    let mut i = 0;
-    while i < threads {
-        let home = homes[i];
-        at = put_thread(buffer, at, before, home);
-        before = home;
-        i += 1;
+    for i in 0..tree.threads as usize {
+        at = put_thread(buffer, at, before, tree.homes[i]);
+        before = tree.homes[i];
     }
     at
 }
 
 // D in a byte, with 128 more for a ticket root.
-fn first_byte_of(tree: TreeWords) -> u8
-    requires { tree.domains ≤ 64 }
-    ensures { result ≡ first_byte (tree_of tree) }
+fn first_byte_of(tree: &TreeWords) -> u8
+    requires { tree.now.domains ≤ 64 }
+    ensures { result ≡ first_byte (tree_of tree.now) }
 {
+    let domains = tree.domains as u8;
     if tree.ticket_root == 0 {
-        return tree.domains as u8;
+        domains
+    } else {
+        domains + 128
     }
-    tree.domains as u8 + 128
 }
 
 // Writes the tree at the front of a buffer; returns its length.
-pub(crate) fn put_tree(buffer: &mut [u8], tree: TreeWords) -> usize
-    requires domains_nonzero { (0 < tree.domains) × (tree.domains ≤ 64) }
-    requires threads_bound { tree.threads ≤ 256 }
-    requires tree_in_bounds { length (written_tree (tree_of tree)) ≤ length buffer.old }
-    ensures value { result ≡ length (written_tree (tree_of tree)) }
-    ensures buffer_after { buffer.new ≡ sets buffer.old 0 (written_tree (tree_of tree)) }
+pub(crate) fn put_tree(buffer: &mut [u8], tree: &TreeWords) -> usize
+    requires domains_nonzero { (0 < tree.now.domains) × (tree.now.domains ≤ 64) }
+    requires threads_bound { tree.now.threads ≤ 256 }
+    requires tree_in_bounds { length (written_tree (tree_of tree.now)) ≤ length buffer.old }
+    ensures value { result ≡ length (written_tree (tree_of tree.now)) }
+    ensures buffer_after { buffer.new ≡ sets buffer.old 0 (written_tree (tree_of tree.now)) }
 {
     buffer[0] = first_byte_of(tree);
-    let after_domains = put_domains(
-        buffer,
-        1,
-        &tree.parents,
-        &tree.thresholds,
-        casts::number_index(tree.domains),
-    );
+    let after_domains = put_domains(buffer, 1, tree);
     let after_count = put_two_bytes(buffer, after_domains, tree.threads as u16);
-    put_threads(
-        buffer,
-        after_count,
-        &tree.homes,
-        casts::number_index(tree.threads),
-    )
+    put_threads(buffer, after_count, tree)
 }
 
 // Writes the schedule at a position, two bytes per entry.
@@ -147,9 +122,7 @@ pub(crate) fn put_schedule(buffer: &mut [u8], start: usize, schedule: &[u16])
     ensures { buffer.new ≡ sets buffer.old start (written_schedule schedule.now) }
 {
     let mut at = start;
-    let mut k = 0;
-    while k < schedule.len() {
-        at = put_two_bytes(buffer, at, schedule[k]);
-        k += 1;
+    for i in schedule {
+        at = put_two_bytes(buffer, at, *i);
     }
 }

@@ -15,9 +15,7 @@ use Rattle.model.specs.Runs.{occurrences}
 use Rattle.model.specs.Refusals.{refusal, tree_tests, has_number}
 use Rattle.model.proofs.Tests.{by_test, or_cases}
 use Rattle.model.proofs.Lists.{same_or}
-use Rattle.lock_file.specs.declared.Reached.{Reached}
-use Rattle.lock_file.specs.declared.Reached.TheVariants.{At, Ended, BadMap}
-use Rattle.lock_file.specs.Reading.{reached_refusal, entries_at, tree_read, reading_of, file_read}
+use Rattle.lock_file.specs.Reading.{Reached, At, Ended, BadMap, reached_refusal, entries_at, tree_read, reading_of, file_read}
 use Rattle.lock_file.proofs.Positions.{entries_length}
 use Rattle.lock_file.specs.PrintedListing.Listing.{listing}
 use Rattle.lock_file.specs.FileAnswers.FileAnswers.{Outcome, refused_by, lists, listing_outcome, run_outcome, file_run, file_trace, reading_outcome, file_outcome, outcome_reply, file_answer}

@@ -24,9 +24,7 @@ use Rattle.model.specs.Laws.{CountLaw}
 use Rattle.model.proofs.Laws.Runs.{count_law, steps_length}
 use Rattle.model.proofs.Laws.Calls.{run_facts, run_reply_number}
 use Rattle.model.proofs.Counted.{how_many_most}
-use Rattle.lock_file.specs.declared.Reached.{Reached}
-use Rattle.lock_file.specs.declared.Reached.TheVariants.{At, Ended, BadMap}
-use Rattle.lock_file.specs.Reading.{reached_refusal, entries_at, tree_read, reading_of, file_read}
+use Rattle.lock_file.specs.Reading.{Reached, At, Ended, BadMap, reached_refusal, entries_at, tree_read, reading_of, file_read}
 use Rattle.lock_file.proofs.Positions.{entries_length}
 use Rattle.lock_file.specs.PrintedListing.Listing.{listing}
 use Rattle.lock_file.specs.PrintedListing.ListingLaws.{FiveDigits, LengthLaw}

@@ -47,11 +47,17 @@ written_schedule (i ∷ is) = low_first_bytes i ++ written_schedule is
 unfoldable pub first_byte : Tree → ℕ
 first_byte t = t.domains + cond t.ticket_root 128 0
 
--- the tree: the first byte, the domains 1 to D − 1, T in two bytes, the threads 0 to T − 1; the home before the first is 0
+-- the entries of the domains 1 to D − 1
+abbrev pub domains_of : Tree → List ℕ
+domains_of t = written_domains t.parent t.threshold (t.domains - 1) 1
+
+-- the entries of the threads 0 to T − 1; the home before the first is 0
+abbrev pub threads_of : Tree → List ℕ
+threads_of t = written_threads t.home t.threads 0 0
+
+-- the tree: the first byte, the domains, T in two bytes, the threads
 unfoldable pub written_tree : Tree → List ℕ
-written_tree t =
-    first_byte t
-    ∷ (written_domains t.parent t.threshold (t.domains - 1) 1 ++ (low_first_bytes t.threads ++ written_threads t.home t.threads 0 0))
+written_tree t = first_byte t ∷ (domains_of t ++ (low_first_bytes t.threads ++ threads_of t))
 
 -- the whole file
 unfoldable pub written_file : Tree → (schedule : List ℕ) → List ℕ

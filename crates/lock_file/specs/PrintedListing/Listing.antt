@@ -1,5 +1,5 @@
 -- Document 01, "Program and host": decimal numerals, the listing and the refusal line.
-use Rattle.std.specs.Prelude.{cond, List, [], ◌∷◌, ◌++◌, ℕ, zero, suc, ◌+◌, ◌/◌, ◌%◌, ltb, length, drop}
+use Rattle.std.specs.Prelude.{cond, List, [], ◌∷◌, ◌++◌, ℕ, zero, suc, ◌+◌, ◌/◌, ◌%◌, ltb, length, drop, Option, Some, None}
 use Rattle.model.specs.declared.Counts.{Counts}
 
 -- the byte of a decimal digit
@@ -60,3 +60,7 @@ printed ls b = cond (ltb (length b) (length ls)) b (ls ++ drop (length ls) b)
 -- how many bytes are printed: none if the buffer is shorter than the text
 unfoldable pub printed_length : (text : List ℕ) → (room : ℕ) → ℕ
 printed_length ls room = cond (ltb room (length ls)) 0 (length ls)
+
+-- the length of a text, or nothing if the buffer is shorter than the text
+unfoldable pub fitted : (text : List ℕ) → (room : ℕ) → Option ℕ
+fitted ls room = cond (ltb room (length ls)) None (Some (length ls))

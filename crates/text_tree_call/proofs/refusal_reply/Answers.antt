@@ -4,4 +4,4 @@ use Rattle.text_tree_call.proofs.refusal_reply.Goals as goal
 
 pub returns : goal.returns
 unfolding refused_by
-returns c = rw c.no_tree-tree.ensures
+returns c = rw (c.number.ensures, c.no_tree.ensures)

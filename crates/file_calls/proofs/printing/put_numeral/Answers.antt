@@ -22,7 +22,7 @@ loop-rest-preserved c = let ten = c.loop-rest-test.true in
     let shorter : c.loop-rest.left - 1 ≡ length (numeral (c.loop-rest.rest / 10)) = omega (arith, length_large c.loop-rest.rest ten) in (
       shorter,
       simp length-set c.loop-rest.invariant.1,
-      rw c.digit_of.ensures (last_digit c.loop-rest.output _ c.loop-rest.rest _ ten shorter ∙ c.loop-rest.invariant.2),
+      last_digit c.loop-rest.output _ c.loop-rest.rest _ ten shorter ∙ c.loop-rest.invariant.2,
       omega arith,
     )
 
@@ -30,4 +30,4 @@ pub bounds-output-at-2 : goal.bounds-output-at-2
 bounds-output-at-2 c = omega (arith, length_positive c.loop-rest.rest)
 
 pub returns : goal.returns
-returns c = record { value = omega (arith, c.digit_count-count.ensures.value); output_after = rw c.digit_of-2.ensures (only_digit c.loop-rest.output _ c.loop-rest.rest c.loop-rest-test.false ∙ c.loop-rest.invariant.2) }
+returns c = record { value = omega (arith, c.digit_count-count.ensures.value); output_after = only_digit c.loop-rest.output _ c.loop-rest.rest c.loop-rest-test.false ∙ c.loop-rest.invariant.2 }

@@ -1,5 +1,7 @@
 -- `file_calls::printing::write_refusal` meets its contract: the line is measured first; then the word is written, and number and place after it.
-use mathlib.Core.Path.{sym, ◌∙◌}
+use Rattle.std.proofs.Common.{rules}
+use Rattle.file_calls.proofs.Copying.{copied_front}
+use mathlib.Core.Path.{◌≡◌, sym, ◌∙◌}
 use Prim.Native.Nat.{◌≤◌, ◌<◌}
 use mathlib.Core.List.{[], ◌∷◌}
 use native.Mathlib.Omega.{arith}
@@ -22,8 +24,10 @@ returns c = let a = c.args in
     let line = refusal_line a.number a.place in
     let long = length_refusal_line a.number a.place in
     let fits : length line ≤ length a.output.now = omega arith in
+    let refused : c.copy_from_slice.new.self ≡ 114 ∷ 101 ∷ 102 ∷ 117 ∷ 115 ∷ 101 ∷ 100 ∷ [] = search rules in
+    let front = copied_front a.output.now _ (114 ∷ 101 ∷ 102 ∷ 117 ∷ 115 ∷ 101 ∷ 100 ∷ []) refused (omega (arith, long, fits)) in
     record {
       value = rw (length_fits line _ fits) (omega (arith, c.put_spaced.ensures.value));
       output_after = rw (printed_fits line _ fits)
-          (c.put_spaced.ensures.output_after ∙ rw c.put_refused.ensures (line_written a.output.now (114 ∷ 101 ∷ 102 ∷ 117 ∷ 115 ∷ 101 ∷ 100 ∷ []) (a.number ∷ a.place ∷ []) fits));
+          (c.put_spaced.ensures.output_after ∙ rw front (line_written a.output.now (114 ∷ 101 ∷ 102 ∷ 117 ∷ 115 ∷ 101 ∷ 100 ∷ []) (a.number ∷ a.place ∷ []) fits));
     }

@@ -1,41 +1,25 @@
--- `file_calls::running::run_file` meets its contract: a file that is too long, or how far reading came: to the schedule, to the file's end or to a bad bit map.
-use Prim.Native.Nat.{◌≤◌}
-use native.Mathlib.Omega.{arith}
-use lib.ListN.{length}
-use Rattle.model.specs.Refusals.{refusal}
-use Rattle.lock_file.specs.FileAnswers.FileAnswers.{outcome_reply, outcome_output, file_answer, output_answer}
-use Rattle.file_calls.proofs.running.Outcomes.{file_long, file_at, file_ended, file_bad}
-use Rattle.lock_file.proofs.Bounded.{place_within, start_within}
+-- By the bounded reading.
+use Rattle.std.proofs.Common.{◌∙◌, ap, length}
+use Rattle.lock_file.specs.FileAnswers.FileAnswers.{reading_outcome, outcome_reply, outcome_output, file_answer, output_answer}
+use Rattle.file_calls.proofs.running.Outcomes.{bounded_outcome}
 use Rattle.file_calls.proofs.running.run_file.Goals as goal
 
-pub returns-then-file-gt65536 : goal.returns-then-file-gt65536
-unfolding file_answer output_answer outcome_reply outcome_output refusal
-returns-then-file-gt65536 c = let long = c.if-file-gt65536.true in record { value = rw (file_long _ _ long); output_after = rw (file_long _ _ long) }
+pub returns-in-Ok : goal.returns-in-Ok
+unfolding file_answer output_answer reading_outcome
+returns-in-Ok c =
+    let room = length c.args.output.now in
+    let e = ap (λ r. reading_outcome r room) c.in-Ok.ensures.value ∙ bounded_outcome c.args.file.now room in
+    record {
+      value = c.run_tree.ensures.value ∙ ap outcome_reply e;
+      output_after = c.run_tree.ensures.output_after ∙ ap (λ o. outcome_output o c.args.output.now) e;
+    }
 
-pub run_tree-requires : goal.run_tree-requires
-run_tree-requires c = record { at_in_bounds = start_within _ (omega arith) _ c.read_tree-read.ensures _ c.in-At.is; file_len_bound = omega arith }
-
-pub index_number-requires-in-BadMap : goal.index_number-requires-in-BadMap
-index_number-requires-in-BadMap c = let h = place_within _ (omega arith) _ c.read_tree-read.ensures _ c.in-BadMap.is in
-    omega arith
-
-pub returns-in-At : goal.returns-in-At
-unfolding file_answer output_answer
-returns-in-At c = let a = c.args in
-    let short : length a.file.now ≤ 65536 = omega arith in
-    let e = file_at a.file.now (length a.output.now) short _ c.read_tree-read.ensures _ c.in-At.is in
-    record { value = rw (e, c.run_tree.ensures.value); output_after = rw (e, c.run_tree.ensures.output_after) }
-
-pub returns-in-Ended : goal.returns-in-Ended
-unfolding file_answer output_answer outcome_reply outcome_output refusal
-returns-in-Ended c = let a = c.args in
-    let short : length a.file.now ≤ 65536 = omega arith in
-    let e = file_ended a.file.now (length a.output.now) short _ c.read_tree-read.ensures c.in-Ended.is in
-    record { value = rw (e, c.index_number.ensures); output_after = rw e }
-
-pub returns-in-BadMap : goal.returns-in-BadMap
-unfolding file_answer output_answer outcome_reply outcome_output refusal
-returns-in-BadMap c = let a = c.args in
-    let short : length a.file.now ≤ 65536 = omega arith in
-    let e = file_bad a.file.now (length a.output.now) short _ c.read_tree-read.ensures _ c.in-BadMap.is in
-    record { value = rw (e, c.index_number-in-BadMap.ensures); output_after = rw e }
+pub returns-in-Err : goal.returns-in-Err
+unfolding file_answer output_answer reading_outcome outcome_output
+returns-in-Err c =
+    let room = length c.args.output.now in
+    let e = ap (λ r. reading_outcome r room) c.in-Err.ensures.value ∙ bounded_outcome c.args.file.now room in
+    record {
+      value = c.refused_by.ensures ∙ rw c.number.ensures (ap outcome_reply e);
+      output_after = ap (λ o. outcome_output o c.args.output.now) e;
+    }

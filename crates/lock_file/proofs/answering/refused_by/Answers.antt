@@ -1,9 +1,8 @@
--- `lock_file::answering::refused_by` meets its contract: every word is 0.
-use mathlib.Core.Path.{refl}
+-- Every word of the tree is 0.
 use Rattle.model.specs.Refusals.{refusal}
 use Rattle.lock_file.specs.Answers.{no_tree, reading_reply}
 use Rattle.lock_file.proofs.answering.refused_by.Goals as goal
 
 pub returns : goal.returns
 unfolding reading_reply refusal no_tree
-returns c = refl
+returns c = rw c.number.ensures

@@ -9,8 +9,8 @@ decreases-read_domain l = l.left * 2
 abbrev pub decreases-read_list : goal.decreases-read_list
 decreases-read_list l = l.left * 2 + 1
 
-abbrev pub invariant-read_list-loop-p : goal.invariant-read_list-loop-p
-invariant-read_list-loop-p l = DueAgain l.text l.start l.initial.tree l.domain l.left l.at l.tree
+abbrev pub invariant-read_list-loop-inside : goal.invariant-read_list-loop-inside
+invariant-read_list-loop-inside l = DueAgain l.text l.start l.initial.tree l.domain l.left l.at l.tree
 
-abbrev pub decreases-read_list-loop-p : goal.decreases-read_list-loop-p
-decreases-read_list-loop-p l = length l.text - l.at
+abbrev pub decreases-read_list-loop-inside : goal.decreases-read_list-loop-inside
+decreases-read_list-loop-inside l = length l.text - l.at

@@ -1,13 +1,12 @@
--- `text_tree_call::domains::read_leaf` meets its contract: stuck without a count or a parenthesis after it; otherwise that many more threads.
-use mathlib.Core.Path.{sym, ◌∙◌}
-use Rattle.text_tree_call.proofs.Parts.{leaf_missing, leaf_wrong, leaf_closed}
+-- Stuck without a count or a parenthesis after it; otherwise that many more threads.
+use Rattle.std.proofs.Common.{◌≡◌, Err, rules}
+use Rattle.text_tree_call.proofs.Parts.{leaf_wrong, leaf_closed}
 use Rattle.text_tree_call.proofs.domains.read_leaf.Goals as goal
 
-pub returns-then-byte_at-ne41 : goal.returns-then-byte_at-ne41
-returns-then-byte_at-ne41 c = leaf_wrong _ _ _ _ _ c.read_count-read.ensures _ _ _ c.in-Value.is (λ e. c.if-byte_at-ne41.true (c.byte_at.ensures ∙ e))
+pub returns-in_err-after : goal.returns-in_err-after
+returns-in_err-after c =
+    let e : c.from_residual-in_err-after.result ≡ Err c.in_err-after.field-0.0 = search rules in
+    rw e (leaf_wrong _ _ _ _ _ c.read_count.ensures _ c.in_ok-end.was _ _ c.in_err-after.ensures)
 
-pub returns-in-Stopped : goal.returns-in-Stopped
-returns-in-Stopped c = leaf_missing _ _ _ _ _ c.read_count-read.ensures _ _ c.in-Stopped.is
-
-pub returns-else-byte_at-ne41 : goal.returns-else-byte_at-ne41
-returns-else-byte_at-ne41 c = rw c.add_threads-with_threads.ensures (leaf_closed _ _ _ _ _ c.read_count-read.ensures _ _ c.in-Value.is (sym c.byte_at.ensures ∙ c.if-byte_at-ne41.false))
+pub returns : goal.returns
+returns c = rw c.add_threads.ensures (leaf_closed _ _ _ _ _ c.read_count.ensures _ c.in_ok-end.was _ c.in_ok-after.ensures)

@@ -1,22 +1,27 @@
--- `text_tree_call::numbers::read_threshold` meets its contract: stopped without a first digit; with one, reading continues from its value.
-use mathlib.Core.Path.{sym, ◌∙◌, ap}
-use Prim.Native.Nat.{◌-◌}
-use native.Mathlib.Omega.{arith}
-use lib.ListN.{get_or}
-use Rattle.text_tree.specs.Reading.{is_first_digit}
-use Rattle.text_tree.proofs.Digits.{first_digit_bounds}
-use Rattle.text_tree_call.proofs.Moving.{first_digit_in_text}
-use Rattle.text_tree_call.proofs.Parts.{threshold_none, threshold_first}
+-- Stopped without a first digit; with one, reading continues digit by digit.
+use Rattle.std.proofs.Common.{◌≡◌, sym, ◌∙◌, ap, Err, ◌+◌, get_or, rules, arith}
+use Rattle.text_tree.specs.Reading.{in_threshold}
+use Rattle.text_tree.proofs.Digits.{first_digit_bounds, grows_limit}
+use Rattle.text_tree_call.specs.Inner.{from}
+use Rattle.text_tree_call.proofs.Moving.{threshold_begins, threshold_goes_on}
+use Rattle.text_tree_call.proofs.Parts.{threshold_none}
 use Rattle.text_tree_call.proofs.numbers.read_threshold.Goals as goal
 
-pub returns-then-not-is_first_digit_byte : goal.returns-then-not-is_first_digit_byte
-returns-then-not-is_first_digit_byte c = threshold_none _ _ (sym (ap is_first_digit c.byte_at-b.ensures) ∙ sym c.is_first_digit_byte.ensures ∙ c.if-not-is_first_digit_byte.true)
+pub returns-in_err-number : goal.returns-in_err-number
+returns-in_err-number c =
+    let e : c.from_residual.result ≡ Err c.in_err-number.field-0.0 = search rules in
+    rw e (threshold_none _ _ _ c.in_err-number.ensures)
 
-pub overflow_add-at : goal.overflow_add-at
-overflow_add-at c = omega (arith, first_digit_in_text c.args.text.now c.args.at (sym (ap is_first_digit c.byte_at-b.ensures) ∙ sym c.is_first_digit_byte.ensures ∙ c.if-not-is_first_digit_byte.false))
+pub loop-i-init : goal.loop-i-init
+loop-i-init c =
+    let h = c.in_ok-number.ensures in (
+      λ d ds w. threshold_begins _ _ d ds w h.0 ∙ ap (λ n. from c.args.text.now (c.args.at + 1) (in_threshold n d ds (c.args.at + 1) w)) (sym h.1),
+      omega (arith, h.1, first_digit_bounds (get_or c.args.text.now c.args.at 0) h.0),
+    )
 
-pub overflow_sub-b : goal.overflow_sub-b
-overflow_sub-b c = rw c.byte_at-b.ensures (omega (arith, first_digit_bounds (get_or c.args.text.now c.args.at 0) (sym (ap is_first_digit c.byte_at-b.ensures) ∙ sym c.is_first_digit_byte.ensures ∙ c.if-not-is_first_digit_byte.false)))
-
-pub returns : goal.returns
-returns c = threshold_first _ _ _ _ (sym (ap is_first_digit c.byte_at-b.ensures) ∙ sym c.is_first_digit_byte.ensures ∙ c.if-not-is_first_digit_byte.false) (c.byte_number.ensures ∙ ap (λ b. b - 48) c.byte_at-b.ensures) c.read_more_threshold.ensures
+pub loop-i-preserved : goal.loop-i-preserved
+loop-i-preserved c =
+    let grows_on = sym c.if-not-grows_with.ensures in (
+      λ d ds w. c.loop-i.invariant.0 d ds w ∙ threshold_goes_on _ _ d ds w _ grows_on ∙ rw c.grow-number.ensures,
+      rw c.grow-number.ensures (grows_limit _ _ grows_on),
+    )

@@ -9,6 +9,6 @@ pub returns-then-tree-eq0 : goal.returns-then-tree-eq0
 unfolding first_byte tree_of
 returns-then-tree-eq0 c = rw (eq-eqb _ _ c.if-tree-eq0.true) (omega arith)
 
-pub returns : goal.returns
+pub returns-else-tree-eq0 : goal.returns-else-tree-eq0
 unfolding first_byte tree_of
-returns c = rw (ne_eqb _ _ c.if-tree-eq0.false) (omega arith)
+returns-else-tree-eq0 c = rw (ne_eqb _ _ c.if-tree-eq0.false) (omega arith)

@@ -1,0 +1,2 @@
+-- What the functions inside the calls promise.
+pub mod Replies
