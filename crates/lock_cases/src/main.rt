@@ -90,11 +90,10 @@ fn late_entry(rt: &impl Print) -> io::Result<()> {
     print!(rt; "last entry no thread")?;
     show(rt, &r, trace[0], trace[1])?;
     let s = r.state.words;
-    println!(
-        rt;
-        "its state's first tail, status and row {} {} {}",
-        s.tails[1], s.statuses[0] % 65536, s.places.rows[0]
-    )
+    let tail = s.tails[1];
+    let status = s.statuses[0] % 65536;
+    let row = s.places.rows[0];
+    println!(rt; "its state's first tail, status and row {tail} {status} {row}")
 }
 
 // Three more turns of a thread in Wait without a grant are three stays.
@@ -154,18 +153,16 @@ fn step_line(
 ) -> io::Result<()> {
     let r = lock::step_lock(tree, uncounted(words), thread);
     let s = r.state.words;
-    let q = s.places;
     let at = (thread % 256) as usize;
-    print!(
-        rt;
-        "{label} {} {}; row {} {} {} {}",
-        r.number, r.place, q.rows[at], q.domains[at], q.peers[at], q.words[at] % 65536
-    )?;
-    println!(
-        rt;
-        "; tail {}; next {}; status {}",
-        s.tails[1], s.nexts[0], s.statuses[0] % 65536
-    )
+    let row = s.places.rows[at];
+    let domain = s.places.domains[at];
+    let peer = s.places.peers[at];
+    let word = s.places.words[at] % 65536;
+    print!(rt; "{label} {} {}; row {row} {domain} {peer} {word}", r.number, r.place)?;
+    let tail = s.tails[1];
+    let next = s.nexts[0];
+    let status = s.statuses[0] % 65536;
+    println!(rt; "; tail {tail}; next {next}; status {status}")
 }
 
 // A fresh lock whose first thread is at another place.
