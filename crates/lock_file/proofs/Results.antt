@@ -1,12 +1,11 @@
 -- What the code returns: a position or a tree, or why reading stops.
-use Rattle.std.proofs.Common.{◌≡◌, refl, sym, ◌∙◌, ap, ℕ, ◌-◌, ◌%◌, ◌<◌, ◌≢◌, List, length, replicate, Result, Ok, Err}
+use Rattle.std.proofs.Common.{◌≡◌, refl, sym, ◌∙◌, ap, ℕ, ◌-◌, ◌%◌, ◌<◌, ◌≢◌, List, length, replicate, Err}
 use borrow.Author.Tests.{eq-eqb, ne_eqb}
 use Rattle.model.specs.declared.TreeWords.{TreeWords}
 use Rattle.lock_file.specs.declared.ReadError.{ReadError}
 use Rattle.lock_file.specs.declared.ReadError.TheVariants.{FileCut, FileBit}
-use Rattle.lock_file.specs.declared.TreeRead as declared
-use Rattle.lock_file.specs.Reading.{Reached, At, Ended, BadMap, DomainsRead, ThreadsRead, TreeRead, domain_count, root_number, two_bytes, field_end, domain_end, parent_at, domains_at, domains_from, domains_read, thread_end, home_at, threads_at, threads_from, threads_after, threads_read, thread_count, schedule_start, tree_read}
-use Rattle.lock_file.specs.Results.{reached_of, result_at, result_for}
+use Rattle.lock_file.specs.Reading.{Reached, At, Ended, DomainsRead, ThreadsRead, domain_count, root_number, two_bytes, field_end, domain_end, parent_at, domains_at, domains_from, domains_read, thread_end, home_at, threads_at, threads_from, threads_after, threads_read, thread_count, schedule_start, tree_at, tree_read}
+use Rattle.lock_file.specs.Results.{reached_of}
 use Rattle.lock_file.proofs.Positions.{domains_ended, domains_bad, threads_ended, threads_bad}
 
 pub parent_is : (bs : List ℕ) (at : ℕ) → home_at bs 0 at ≡ parent_at bs at
@@ -39,36 +38,41 @@ unfolding threads_after
 no_count bs at FileCut = refl
 no_count bs at (FileBit p) = refl
 
-no_schedule : (bs : List ℕ) (e : ReadError) (w : TreeWords) → result_at (schedule_start bs (stopped e)) w ≡ Err e
+no_schedule : (bs : List ℕ) (e : ReadError) → schedule_start bs (stopped e) ≡ stopped e
 unfolding schedule_start
-no_schedule bs FileCut w = refl
-no_schedule bs (FileBit p) w = refl
+no_schedule bs FileCut = refl
+no_schedule bs (FileBit p) = refl
+
+none_counted : (bs : List ℕ) (e : ReadError) → thread_count bs (stopped e) ≡ 0
+unfolding thread_count
+none_counted bs FileCut = refl
+none_counted bs (FileBit p) = refl
 
 -- THE TREE, from its two parts
 module _ (bs : List ℕ) where
-  abbrev tree_with : DomainsRead → ThreadsRead → TreeWords
-  tree_with ds ts =
+  abbrev words_with : (threads : ℕ) → (parents thresholds homes : List ℕ) → TreeWords
+  words_with t ps hs ms =
       record {
         domains = domain_count bs;
-        threads = thread_count bs ds.reached;
-        parents = ds.parents;
-        thresholds = ds.thresholds;
-        homes = ts.homes;
+        threads = t;
+        parents = ps;
+        thresholds = hs;
+        homes = ms;
         ticket_root = root_number bs;
       }
 
   tree_is :
       (ds : DomainsRead) (ts : ThreadsRead) → ds ≡ domains_read bs → ts ≡ threads_read bs ds.reached →
-      result_at (schedule_start bs ts.reached) (tree_with ds ts) ≡ result_for (tree_read bs)
+      tree_at (schedule_start bs ts.reached) (words_with (thread_count bs ds.reached) ds.parents ds.thresholds ts.homes) ≡ tree_read bs
   unfolding tree_read
   tree_is ds ts e f = rw (f, e)
 
-  pub tree_empty : length bs ≡ 0 → Err FileCut ≡ result_for (tree_read bs)
+  pub tree_empty : length bs ≡ 0 → tree_at Ended (words_with 0 (replicate 64 0) (replicate 64 0) (replicate 256 0)) ≡ tree_read bs
   unfolding domains_read
   tree_empty h =
       let ds = domains_at Ended (replicate 64 0) (replicate 64 0) in
       let ts = threads_at Ended (replicate 256 0) in
-      sym (no_schedule bs FileCut (tree_with ds ts)) ∙ tree_is ds ts (rw (eq-eqb _ _ h)) (sym (no_threads bs FileCut))
+      rw (no_schedule bs FileCut, none_counted bs FileCut) at (tree_is ds ts (rw (eq-eqb _ _ h)) (sym (no_threads bs FileCut)))
 
   module _ (some : length bs ≢ 0) where
     all_domains : domains_from bs (domain_count bs - 1) 1 1 (replicate 64 0) (replicate 64 0) ≡ domains_read bs
@@ -78,23 +82,29 @@ module _ (bs : List ℕ) where
     pub tree_domains_stopped :
         (e : ReadError) (ps hs : List ℕ) →
         domains_at (stopped e) ps hs ≡ domains_from bs (domain_count bs - 1) 1 1 (replicate 64 0) (replicate 64 0) →
-        Err e ≡ result_for (tree_read bs)
+        tree_at (stopped e) (words_with 0 ps hs (replicate 256 0)) ≡ tree_read bs
     tree_domains_stopped e ps hs h =
         let ds = domains_at (stopped e) ps hs in
         let ts = threads_at (stopped e) (replicate 256 0) in
-        sym (no_schedule bs e (tree_with ds ts)) ∙ tree_is ds ts (h ∙ all_domains) (sym (no_threads bs e))
+        rw (no_schedule bs e, none_counted bs e) at (tree_is ds ts (h ∙ all_domains) (sym (no_threads bs e)))
 
     module _
         (at : ℕ) (ps hs : List ℕ)
         (domains : domains_at (At at) ps hs ≡ domains_from bs (domain_count bs - 1) 1 1 (replicate 64 0) (replicate 64 0))
       where
-        pub tree_count_stopped : (e : ReadError) → stopped e ≡ field_end bs at 2 → Err e ≡ result_for (tree_read bs)
+        tree_after_domains :
+            (ts : ThreadsRead) → ts ≡ threads_read bs (At at) →
+            tree_at (schedule_start bs ts.reached) (words_with (two_bytes bs at) ps hs ts.homes) ≡ tree_read bs
+        unfolding thread_count
+        tree_after_domains ts f = tree_is (domains_at (At at) ps hs) ts (domains ∙ all_domains) f
+
+        pub tree_count_stopped :
+            (e : ReadError) → stopped e ≡ field_end bs at 2 →
+            tree_at (stopped e) (words_with (two_bytes bs at) ps hs (replicate 256 0)) ≡ tree_read bs
         unfolding threads_read
         tree_count_stopped e h =
-            let ds = domains_at (At at) ps hs in
             let ts = threads_at (stopped e) (replicate 256 0) in
-            sym (no_schedule bs e (tree_with ds ts))
-            ∙ tree_is ds ts (domains ∙ all_domains) (sym (no_count bs at e) ∙ ap (threads_after bs at) h)
+            rw (no_schedule bs e) at (tree_after_domains ts (sym (no_count bs at e) ∙ ap (threads_after bs at) h))
 
         module _ (next : ℕ) (counted : At next ≡ field_end bs at 2) where
           all_threads : threads_from bs (two_bytes bs at) 0 0 next (replicate 256 0) ≡ threads_read bs (At at)
@@ -103,71 +113,19 @@ module _ (bs : List ℕ) where
 
           pub tree_threads_stopped :
               (e : ReadError) (ms : List ℕ) → threads_at (stopped e) ms ≡ threads_from bs (two_bytes bs at) 0 0 next (replicate 256 0) →
-              Err e ≡ result_for (tree_read bs)
-          tree_threads_stopped e ms h =
-              let ds = domains_at (At at) ps hs in
-              let ts = threads_at (stopped e) ms in
-              sym (no_schedule bs e (tree_with ds ts)) ∙ tree_is ds ts (domains ∙ all_domains) (h ∙ all_threads)
+              tree_at (stopped e) (words_with (two_bytes bs at) ps hs ms) ≡ tree_read bs
+          tree_threads_stopped e ms h = rw (no_schedule bs e) at (tree_after_domains (threads_at (stopped e) ms) (h ∙ all_threads))
 
           module _
               (start : ℕ) (ms : List ℕ)
               (threads : threads_at (At start) ms ≡ threads_from bs (two_bytes bs at) 0 0 next (replicate 256 0))
             where
-              pub tree_odd : (length bs - start) % 2 ≢ 0 → Err FileCut ≡ result_for (tree_read bs)
+              pub tree_odd :
+                  (length bs - start) % 2 ≢ 0 → tree_at Ended (words_with (two_bytes bs at) ps hs ms) ≡ tree_read bs
               unfolding schedule_start
-              tree_odd h =
-                  let ds = domains_at (At at) ps hs in
-                  let ts = threads_at (At start) ms in
-                  rw (ne_eqb _ _ h) at (tree_is ds ts (domains ∙ all_domains) (threads ∙ all_threads))
+              tree_odd h = rw (ne_eqb _ _ h) at (tree_after_domains (threads_at (At start) ms) (threads ∙ all_threads))
 
               pub tree_whole :
-                  (length bs - start) % 2 ≡ 0 →
-                  Ok (record {
-                    tree = record {
-                      domains = domain_count bs;
-                      threads = two_bytes bs at;
-                      parents = ps;
-                      thresholds = hs;
-                      homes = ms;
-                      ticket_root = root_number bs;
-                    };
-                    start = start;
-                  }) ≡ result_for (tree_read bs)
-              unfolding schedule_start thread_count
-              tree_whole h =
-                  let ds = domains_at (At at) ps hs in
-                  let ts = threads_at (At start) ms in
-                  rw (eq-eqb _ _ h) at (tree_is ds ts (domains ∙ all_domains) (threads ∙ all_threads))
-
--- WHAT A RESULT SAYS of the reading
-reached_from : Result declared.TreeRead ReadError → Reached
-reached_from (Ok r) = At r.start
-reached_from (Err e) = stopped e
-
-reached_back : (r : Reached) (w : TreeWords) → reached_from (result_at r w) ≡ r
-unfolding reached_from
-reached_back (At at) w = refl
-reached_back Ended w = refl
-reached_back (BadMap p) w = refl
-
-tree_from : Result declared.TreeRead ReadError → TreeWords → TreeWords
-tree_from (Ok r) w = r.tree
-tree_from (Err e) w = w
-
-tree_back : (r : Reached) (w : TreeWords) → tree_from (result_at r w) w ≡ w
-unfolding tree_from
-tree_back (At at) w = refl
-tree_back Ended w = refl
-tree_back (BadMap p) w = refl
-
-pub start_of : (t : TreeRead) (r : declared.TreeRead) → Ok r ≡ result_for t → t.reached ≡ At r.start
-unfolding reached_from
-start_of t r e = sym (reached_back t.reached t.tree) ∙ sym (ap reached_from e)
-
-pub tree_of : (t : TreeRead) (r : declared.TreeRead) → Ok r ≡ result_for t → t.tree ≡ r.tree
-unfolding tree_from
-tree_of t r e = sym (tree_back t.reached t.tree) ∙ sym (ap (λ x. tree_from x t.tree) e)
-
-pub stopped_of : (t : TreeRead) (e : ReadError) → Err e ≡ result_for t → t.reached ≡ stopped e
-unfolding reached_from
-stopped_of t e h = sym (reached_back t.reached t.tree) ∙ sym (ap reached_from h)
+                  (length bs - start) % 2 ≡ 0 → tree_at (At start) (words_with (two_bytes bs at) ps hs ms) ≡ tree_read bs
+              unfolding schedule_start
+              tree_whole h = rw (eq-eqb _ _ h) at (tree_after_domains (threads_at (At start) ms) (threads ∙ all_threads))

@@ -53,6 +53,12 @@ domains_position bs (suc k) d at ps hs h =
     (λ e. rw (domain_ended bs k d at ps hs e) (omega arith))
     (λ p e. rw (domain_bad bs k d at ps hs p e) (rw e at (domain_position bs at)))
 
+pub domains_end_within :
+    (bs : List ℕ) (at : ℕ) (ps hs : List ℕ) → 1 ≤ length bs →
+    domains_at (At at) ps hs ≡ domains_from bs (domain_count bs - 1) 1 1 (replicate 64 0) (replicate 64 0) → at ≤ length bs
+unfolding position
+domains_end_within bs at ps hs h e = rw (← e) at (domains_position bs (domain_count bs - 1) 1 1 (replicate 64 0) (replicate 64 0) h)
+
 pub threads_position :
     (bs : List ℕ) (k i before at : ℕ) (hs : List ℕ) → at ≤ length bs → position (threads_from bs k i before at hs).reached ≤ length bs
 unfolding threads_from position

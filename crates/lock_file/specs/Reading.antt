@@ -154,6 +154,10 @@ schedule_start bs (At at) = cond (eqb ((length bs - at) % 2) 0) (At at) Ended
 schedule_start bs Ended = Ended
 schedule_start bs (BadMap p) = BadMap p
 
+-- the position reached, and the words of the tree read so far
+abbrev pub tree_at : Reached → TreeWords → TreeRead
+tree_at r w = record { reached = r; tree = w }
+
 -- the tree that was read, and where the schedule starts
 unfoldable pub tree_read : (bytes : List ℕ) → TreeRead
 tree_read bs =

@@ -2,13 +2,28 @@
 ghost use Rattle.std.specs.Prelude.{◌≡◌, ◌≤◌, length, IfOk};
 ghost use Rattle.model.specs.Refusals.{refusal};
 ghost use Rattle.refusals.specs.Reasons.{number_of};
-ghost use Rattle.lock_file.specs.Reading.{reached_refusal, refused, described, entries_at, filled};
-ghost use Rattle.lock_file.specs.Answers.{bounded_read, reading_reply, read_answer, schedule_answer};
-ghost use Rattle.lock_file.specs.Results.{reached_of, reading_from};
+ghost use Rattle.lock_file.specs.Reading.{refused, described, entries_at, filled};
+ghost use Rattle.lock_file.specs.Answers.{bounded_read, no_tree, reading_reply, read_answer, schedule_answer};
+ghost use Rattle.lock_file.specs.Results.{reading_from};
 
 use crate::{ReadError, ReadReply, TreeRead};
 use model::TreeWords;
 use refusals::reasons::{Reason, Refusal};
+
+// A tree whose words are all 0.
+#[tactic(auto, unfolding(crate::specs::Answers::no_tree))]
+fn no_tree() -> TreeWords
+    ensures { result ≡ no_tree }
+{
+    TreeWords {
+        domains: 0,
+        threads: 0,
+        parents: [0; 64],
+        thresholds: [0; 64],
+        homes: [0; 256],
+        ticket_root: 0,
+    }
+}
 
 fn refused_by(r: Refusal) -> ReadReply
     ensures { result ≡ reading_reply (refused (refusal (number_of r.reason) r.place)) }
@@ -17,14 +32,7 @@ fn refused_by(r: Refusal) -> ReadReply
         number: r.number(),
         place: r.place,
         length: 0,
-        tree: TreeWords {
-            domains: 0,
-            threads: 0,
-            parents: [0; 64],
-            thresholds: [0; 64],
-            homes: [0; 256],
-            ticket_root: 0,
-        },
+        tree: no_tree(),
     }
 }
 
@@ -36,8 +44,9 @@ pub(crate) fn bounded_tree_of(file: &[u8]) -> Result<TreeRead, Refusal>
     if 65536 < file.len() {
         return Err(Reason::FileTooLong.at(0));
     }
-    match crate::read_tree(file) {
-        Ok(read) => Ok(read),
+    let mut tree = no_tree();
+    match crate::read_tree(file, &mut tree) {
+        Ok(start) => Ok(TreeRead { tree, start }),
         Err(ReadError::FileCut) => Err(Reason::FileCut.at(file.len() as u32)),
         Err(ReadError::FileBit(at)) => Err(Reason::FileBit.at(at as u32)),
     }

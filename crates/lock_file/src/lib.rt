@@ -10,7 +10,7 @@ mod reading;
 ghost use Rattle.std.specs.Prelude.{◌≡◌, ◌≤◌, length, IfOk};
 ghost use Rattle.lock_file.specs.Answers.{bounded_read, read_answer, schedule_answer};
 ghost use Rattle.lock_file.specs.Reading.{tree_read, entries_at, filled};
-ghost use Rattle.lock_file.specs.Results.{result_for, reading_from};
+ghost use Rattle.lock_file.specs.Results.{reached_of, reading_from};
 
 use model::TreeWords;
 use refusals::reasons::Refusal;
@@ -39,14 +39,15 @@ pub struct ReadReply {
     pub tree: TreeWords,
 }
 
-// The whole file: the tree, and where the schedule starts.
-pub fn read_tree(file: &[u8]) -> Result<TreeRead, ReadError>
-    ensures { result ≡ result_for (tree_read file.now) }
+// Reads the whole file: fills the tree, and returns where the schedule starts. If reading stops, the tree holds the words read so far.
+pub fn read_tree(file: &[u8], tree: &mut TreeWords) -> Result<usize, ReadError>
+    ensures start { reached_of result ≡ (tree_read file.now).reached }
+    ensures tree_after { tree.new ≡ (tree_read file.now).tree }
 {
-    reading::tree_of(file)
+    reading::tree_of(file, tree)
 }
 
-// The same, for a file of at most 65,536 bytes; refused by 1, 2 or 3.
+// The tree, and where the schedule starts, for a file of at most 65,536 bytes; refused by 1, 2 or 3.
 pub fn read_bounded(file: &[u8]) -> Result<TreeRead, Refusal>
     ensures value { reading_from file.now result ≡ bounded_read file.now }
     ensures start_within { IfOk result (λ r. r.start ≤ length file.now) }

@@ -1,10 +1,10 @@
 // Reading a lock file from left to right.
 ghost use Rattle.std.specs.Prelude.{◌≡◌, ◌+◌, ◌*◌, ◌-◌, ◌/◌, ◌<◌, ◌≤◌, length};
 ghost use Rattle.std.proofs.lemmas.List.Edits.{sets};
-ghost use Rattle.lock_file.specs.Reading.{byte, two_bytes, field_end, entry_end, domain_size, domain_end, threshold_at, stored, domains_at, domains_from, thread_end, home_at, threads_at, threads_from, tree_read, entries_from};
-ghost use Rattle.lock_file.specs.Results.{reached_of, result_for};
+ghost use Rattle.lock_file.specs.Reading.{byte, two_bytes, field_end, entry_end, domain_size, domain_end, threshold_at, stored, domains_at, domains_from, thread_end, home_at, threads_at, threads_from, tree_at, tree_read, entries_from};
+ghost use Rattle.lock_file.specs.Results.{reached_of};
 
-use crate::{ReadError, TreeRead};
+use crate::ReadError;
 use model::TreeWords;
 
 // The byte at a position; 0 after the end of the file.
@@ -16,7 +16,7 @@ fn byte_at(file: &[u8], at: usize) -> u8
 
 // The number in two bytes, low byte first.
 fn two_bytes_at(file: &[u8], at: usize) -> u16
-    requires { at < length file.now }
+    requires { at ≤ length file.now }
     ensures { result ≡ two_bytes file.now at }
 {
     u16::from_le_bytes([byte_at(file, at), byte_at(file, at + 1)])
@@ -145,15 +145,12 @@ fn read_threads(
     Ok(at)
 }
 
-// The whole file: the tree, and where the schedule starts. The schedule is the rest of the file, two bytes per entry.
-pub(crate) fn tree_of(file: &[u8]) -> Result<TreeRead, ReadError>
-    ensures { result ≡ result_for (tree_read file.now) }
+// The whole file: fills the tree as far as reading comes, and returns where the schedule starts. The schedule is the rest of the file, two bytes per entry.
+pub(crate) fn tree_of(file: &[u8], tree: &mut TreeWords) -> Result<usize, ReadError>
+    ensures { tree_at (reached_of result) tree.new ≡ tree_read file.now }
 {
-    if file.is_empty() {
-        return Err(ReadError::FileCut);
-    }
-    let first = file[0];
-    let mut tree = TreeWords {
+    let first = byte_at(file, 0);
+    *tree = TreeWords {
         domains: u32::from(first % 128),
         threads: 0,
         parents: [0; 64],
@@ -161,16 +158,19 @@ pub(crate) fn tree_of(file: &[u8]) -> Result<TreeRead, ReadError>
         homes: [0; 256],
         ticket_root: u32::from(first / 128),
     };
+    if file.is_empty() {
+        return Err(ReadError::FileCut);
+    }
     let domains = usize::from(first % 128);
     let at = read_domains(file, domains, &mut tree.parents, &mut tree.thresholds)?;
-    let after_count = field_end_at(file, at, 2)?;
     let threads = two_bytes_at(file, at);
     tree.threads = u32::from(threads);
+    let after_count = field_end_at(file, at, 2)?;
     let start = read_threads(file, usize::from(threads), after_count, &mut tree.homes)?;
     if file.len().saturating_sub(start) % 2 == 1 {
         return Err(ReadError::FileCut);
     }
-    Ok(TreeRead { tree, start })
+    Ok(start)
 }
 
 // The schedule's entries, at the front of a buffer.
