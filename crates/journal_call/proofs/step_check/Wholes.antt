@@ -14,7 +14,8 @@ use Rattle.model.proofs.Trees.Accepted.{sixteen_bit}
 use Rattle.journal.specs.StepCheck.Answers.{Checked, checked}
 use Rattle.journal.proofs.step_check.Checking.{shifted, then_checked, checked_join}
 use Rattle.journal.proofs.step_check.Keeping.{checked_kept, checked_full, checked_few}
-use Rattle.journal_call.specs.StepCheck.Stretches.{found_of, Ready, PieceFits}
+use Rattle.journal_call.specs.StepCheck.Stretches.{Ready, PieceFits}
+use Rattle.journal_call.proofs.step_check.Piecing.{Says, says}
 
 -- some steps are checked, and those ahead decide the rest
 pub record SoFar (t : Tree) (s₀ : LockState) (is ks ds : List ℕ) (s : LockState) (at : ℕ) : Type 0 where
@@ -63,11 +64,11 @@ module _ (w : TreeWords) (s₀ : LockState) (is ks ds : List ℕ) (a : length ks
         ∙ checked_join t s (piece is) (piece ks) (piece ds) (drop end is) (drop end ks) (drop end ds) (piece_long ks a ∙ sym (piece_long is refl)) (piece_long ds b ∙ sym (piece_long is refl)))
 
     -- a step is wrong
-    pub stops : c.number ≢ 0 → (record { number = c.number; steps = at + c.steps } ≡ found_of (checked t s₀ is ks ds)) × (c.state ≡ (checked t s₀ is ks ds).state)
+    pub stops : c.number ≢ 0 → Says (checked t s₀ is ks ds) c.number (at + c.steps) c.state
     unfolding then_checked
     stops n =
         let all : checked t s₀ is ks ds ≡ shifted at c = whole ∙ rw (ne_eqb c.number 0 n) in
-        (ap found_of (sym all), ap (λ v. v.state) (sym all))
+        says (sym all)
 
     -- no step is wrong: the next piece follows
     pub goes_on : c.number ≡ 0 → (s' : LockState) → s' ≡ c.state → SoFar t s₀ is ks ds s' end
@@ -85,12 +86,12 @@ module _ (w : TreeWords) (s₀ : LockState) (is ks ds : List ℕ) (a : length ks
         }
 
     -- the last piece
-    pub ends : end ≡ length is → (record { number = c.number; steps = at + c.steps } ≡ found_of (checked t s₀ is ks ds)) × (c.state ≡ (checked t s₀ is ks ds).state)
+    pub ends : end ≡ length is → Says (checked t s₀ is ks ds) c.number (at + c.steps) c.state
     ends e =
         let rest : (l : List ℕ) → length l ≡ length is → piece l ≡ drop at l = λ l f. take_all (end - at) (drop at l) (omega (arith, length-drop at l)) in
         let same : c ≡ checked t s (drop at is) (drop at ks) (drop at ds) = rw (rest is refl, rest ks a, rest ds b) in
         let all : checked t s₀ is ks ds ≡ shifted at c = g.ahead ∙ ap (shifted at) (sym same) in
-        (ap found_of (sym all), ap (λ v. v.state) (sym all))
+        says (sym all)
 
     -- the steps so far are at most all steps
     pub steps_few : (n : ℕ) → n ≡ c.steps → at + n ≤ length is
