@@ -27,9 +27,9 @@ module _ (w : TreeWords) (s : LockState) (is ks ds : List ℕ) where
   abbrev answer : model.Refusal
   answer = early_refusal (tree_of w) s is ks ds
 
-  pub state_answered : (q : model.Refusal) → q ≡ check_answer w s → (q.number ≡ 0 → ⊥) → q ≡ answer
+  pub state_answered : (q : model.Refusal) → q ≡ check_answer w s → ((check_answer w s).number ≡ 0 → ⊥) → q ≡ answer
   unfolding check_answer
-  state_answered q e n = e ∙ sym (state_decides (tree_of w) s is ks ds (λ z. n (ap (λ v. v.number) e ∙ z)))
+  state_answered q e n = e ∙ sym (state_decides (tree_of w) s is ks ds n)
 
   module _ (e : accepted ≡ check_answer w s) where
     passes : (check_refusal (tree_of w) s).number ≡ 0

@@ -5,6 +5,7 @@ use mathlib.Core.List.{List, [], ◌∷◌}
 use mathlib.Core.Logic.{◌≢◌}
 use Prim.Native.Nat.{ℕ, zero, suc, ◌/◌, ◌%◌, ◌≤◌, ◌<◌}
 use native.Mathlib.Omega.{arith}
+use Rattle.std.specs.Prelude.{Option, Some, None, is_some}
 use native.Mathlib.Decide.{ℕ_discrete}
 use lib.Dec.{eqb}
 use lib.ListN.{length, take, get_or}
@@ -41,13 +42,22 @@ use Rattle.journal_call.specs.StepCheck.Stretches.{refused_number, Ready, Stretc
 use Rattle.journal_call.proofs.step_check.Stretching.{all_known}
 
 -- the parts of what is found for named steps
-pub record Says (c : Checked) (number steps : ℕ) (state : LockState) : Type 0 where
-  pub number : number ≡ c.number
-  pub steps : steps ≡ c.steps
-  pub state : state ≡ c.state
+pub record Says (c : Checked) (n m : ℕ) (left : LockState) : Type 0 where
+  pub number : n ≡ c.number
+  pub steps : m ≡ c.steps
+  pub state : left ≡ c.state
 
 pub says : {c : Checked} {n m : ℕ} {s : LockState} → record { number = n; steps = m; state = s } ≡ c → Says c n m s
 says e = record { number = ap (λ v. v.number) e; steps = ap (λ v. v.steps) e; state = ap (λ v. v.state) e }
+
+-- a step is refused by a number, and by none if nothing refuses it
+pub some_refused : (r : Option Reason) → is_some r ≡ true → refused_number r ≢ 0
+some_refused (Some reason) e z = reason_numbered reason z
+some_refused None e z = absurd (let y : ◌≡◌ {A = ℕ} 0 1 = ap (λ v. cond v 1 0) e in omega arith)
+
+pub none_refused : (r : Option Reason) → is_some r ≡ false → refused_number r ≡ 0
+none_refused (Some reason) e = absurd (let y : ◌≡◌ {A = ℕ} 1 0 = ap (λ v. cond v 1 0) e in omega arith)
+none_refused None e = refl
 
 -- the state that the run's loop leaves, from its words and counters
 pub stepped : (t : Tree) (s : LockState) (is : List ℕ) (m : ℕ) (left : LockState) → left.words ≡ (run t (take m is) s.words).state → left.counters ≡ counters_after t s.counters (steps t (take m is) s.words) → left ≡ after_first t s is m
