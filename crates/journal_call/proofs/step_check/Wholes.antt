@@ -1,11 +1,12 @@
 -- Named steps piece by piece.
 use mathlib.Core.Path.{◌≡◌, refl, sym, ap, ◌∙◌}
-use mathlib.Core.List.{List, ◌++◌}
+use mathlib.Core.List.{List, [], ◌++◌}
 use mathlib.Core.Logic.{◌≢◌}
 use Prim.Native.Nat.{ℕ, ◌+◌, ◌-◌, ◌≤◌}
 use native.Mathlib.Omega.{arith}
 use lib.ListN.{length, take, drop, take-append-drop, length-drop}
-use lib.Seq.{length-take-le, take_all, drop-drop}
+use lib.Seq.{length-take-le, drop-drop}
+use Rattle.std.proofs.lemmas.List.{drop_all}
 use borrow.Author.Tests.{eq-eqb, ne_eqb}
 use Rattle.model.specs.declared.TreeWords.{TreeWords}
 use Rattle.model.specs.declared.LockState.{LockState}
@@ -29,6 +30,14 @@ module _ (w : TreeWords) (s₀ : LockState) (is ks ds : List ℕ) (a : length ks
 
   pub none_yet : Ready t s₀ → SoFar t s₀ is ks ds s₀ 0
   none_yet g = record { ready = g; within = omega arith; ahead = let z : 0 + (checked t s₀ is ks ds).steps ≡ (checked t s₀ is ks ds).steps = omega arith in rw z }
+
+  -- no step is left, and none was wrong
+  pub ends : (s : LockState) (at : ℕ) → SoFar t s₀ is ks ds s at → length is ≤ at → Says (checked t s₀ is ks ds) 0 at s
+  unfolding checked
+  ends s at g h =
+      let none : drop at is ≡ [] = drop_all at is h in
+      let z : at + 0 ≡ at = omega arith in
+      says (sym (g.ahead ∙ rw (none, z)))
 
   module _ (s : LockState) (at end : ℕ) (g : SoFar t s₀ is ks ds s at) (from : at ≤ end) (to : end ≤ length is) where
     abbrev piece : List ℕ → List ℕ
@@ -84,14 +93,6 @@ module _ (w : TreeWords) (s₀ : LockState) (is ks ds : List ℕ) (a : length ks
           within = to;
           ahead = whole ∙ rw (eq-eqb c.number 0 z) (rw (e, y));
         }
-
-    -- the last piece
-    pub ends : end ≡ length is → Says (checked t s₀ is ks ds) c.number (at + c.steps) c.state
-    ends e =
-        let rest : (l : List ℕ) → length l ≡ length is → piece l ≡ drop at l = λ l f. take_all (end - at) (drop at l) (omega (arith, length-drop at l)) in
-        let same : c ≡ checked t s (drop at is) (drop at ks) (drop at ds) = rw (rest is refl, rest ks a, rest ds b) in
-        let all : checked t s₀ is ks ds ≡ shifted at c = g.ahead ∙ ap (shifted at) (sym same) in
-        says (sym all)
 
     -- the steps so far are at most all steps
     pub steps_few : (n : ℕ) → n ≡ c.steps → at + n ≤ length is

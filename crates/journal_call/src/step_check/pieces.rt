@@ -90,9 +90,9 @@ pub(crate) fn check_all(
     ensures steps { result.steps ≡ (checked (tree_of tree.now) state.old threads.now kinds.now domains.now).steps }
     ensures state_after { state.new ≡ (checked (tree_of tree.now) state.old threads.now kinds.now domains.now).state }
 {
-    let mut at: usize = 0;
-    while 1024 < threads.len() - at {
-        let end = at + 1024;
+    let mut at = 0;
+    while at < threads.len() {
+        let end = at + (threads.len() - at).min(1024);
         let found = check_piece(
             tree,
             state,
@@ -104,15 +104,14 @@ pub(crate) fn check_all(
         );
         if found.refused.is_some() {
             return Found {
-                refused: found.refused,
                 steps: at + found.steps,
+                ..found
             };
         }
         at = end;
     }
-    let last = check_piece(tree, state, &threads[at..], &kinds[at..], &domains[at..], trace, codes);
     Found {
-        refused: last.refused,
-        steps: at + last.steps,
+        refused: None,
+        steps: at,
     }
 }
