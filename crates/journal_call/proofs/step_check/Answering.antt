@@ -1,60 +1,59 @@
 -- The answer, from the tests and the pieces.
 use mathlib.Core.Path.{◌≡◌, sym, ap, ◌∙◌}
-use mathlib.Core.Bool.{cond}
 use mathlib.Core.List.{List}
 use Prim.Native.Nat.{ℕ}
-use lib.Dec.{eqb}
 use lib.ListN.{length}
 use borrow.Author.Tests.{eq-eqb, ne_eqb}
 use Rattle.model.specs.declared.TreeWords.{TreeWords}
 use Rattle.model.specs.declared.LockState.{LockState}
 use Rattle.model.specs.Trees.{tree_of}
-use Rattle.model.specs.Refusals.{refusal}
+use Rattle.model.specs.Refusals as model
+use Rattle.model.specs.Refusals.{refusal, accepted}
 use Rattle.model.specs.Laws.{Typed}
-use Rattle.refusals.specs.declared.Refusal.{Refusal}
-use Rattle.refusals.specs.Arrays.{refusal_words}
-use Rattle.refusals.proofs.RunTests.{refusal_words_not, refusal_words_zero}
+use Rattle.refusals.specs.declared.reasons.Reason.{Reason}
+use Rattle.refusals.specs.declared.reasons.Refusal.{Refusal}
+use Rattle.refusals.specs.Reasons.{number_of}
+use Rattle.refusals.proofs.Refusing.{reason_numbered, error_numbered, ok_numbered}
 use Rattle.refusals.specs.StateCheck.Answers.{check_refusal, check_answer}
 use Rattle.refusals.specs.StateCheck.Laws.{CheckRefusalLaw, AcceptedLaw}
 use Rattle.refusals.proofs.state_check.Checking.{check_refusal_law, accepted_law}
 use Rattle.journal.specs.StepCheck.Answers.{early_refusal, checked, steps_answer}
 use Rattle.journal.proofs.step_check.Early.{state_decides, kinds_refuse, domains_refuse, lengths_pass, early_passes}
-use Rattle.journal_call.specs.declared.step_check.pieces.Found.{Found}
-use Rattle.journal_call.specs.StepCheck.Stretches.{found_of, Ready}
+use Rattle.journal_call.specs.StepCheck.Stretches.{Ready}
+use Rattle.journal_call.proofs.step_check.Piecing.{Says}
 
 -- BEFORE THE STEPS, by the result of the state's check
-module _ (w : TreeWords) (s : LockState) (is ks ds : List ℕ) (r : Refusal) (e : r ≡ refusal_words (check_answer w s)) where
-  abbrev answer : Refusal
-  answer = refusal_words (early_refusal (tree_of w) s is ks ds)
+module _ (w : TreeWords) (s : LockState) (is ks ds : List ℕ) where
+  abbrev answer : model.Refusal
+  answer = early_refusal (tree_of w) s is ks ds
 
-  pub state_answered : (r.number ≡ 0 → ⊥) → r ≡ answer
+  pub state_answered : (q : model.Refusal) → q ≡ check_answer w s → ((check_answer w s).number ≡ 0 → ⊥) → q ≡ answer
   unfolding check_answer
-  state_answered n = e ∙ ap refusal_words (sym (state_decides (tree_of w) s is ks ds (refusal_words_not r _ e n)))
+  state_answered q e n = e ∙ sym (state_decides (tree_of w) s is ks ds n)
 
-  module _ (z : r.number ≡ 0) where
+  module _ (e : accepted ≡ check_answer w s) where
     passes : (check_refusal (tree_of w) s).number ≡ 0
     unfolding check_answer
-    passes = refusal_words_zero r _ e z
+    passes = ok_numbered e
 
-    pub kinds_answered : (length ks ≡ length is → ⊥) → refusal_words (refusal 30 0) ≡ answer
-    kinds_answered n = ap refusal_words (sym (kinds_refuse (tree_of w) s is ks ds passes n))
+    pub kinds_answered : (length ks ≡ length is → ⊥) → refusal 30 0 ≡ answer
+    kinds_answered n = sym (kinds_refuse (tree_of w) s is ks ds passes n)
 
-    pub domains_answered : length ks ≡ length is → (length ds ≡ length is → ⊥) → refusal_words (refusal 30 0) ≡ answer
-    domains_answered a n = ap refusal_words (sym (domains_refuse (tree_of w) s is ks ds passes a n))
+    pub domains_answered : length ks ≡ length is → (length ds ≡ length is → ⊥) → refusal 30 0 ≡ answer
+    domains_answered a n = sym (domains_refuse (tree_of w) s is ks ds passes a n)
 
-    pub lengths_answered : length ks ≡ length is → length ds ≡ length is → r ≡ answer
-    unfolding check_answer check_refusal CheckRefusalLaw
-    lengths_answered a b = e ∙ ap refusal_words ((check_refusal_law (tree_of w) s).zero_accepted passes ∙ sym (lengths_pass (tree_of w) s is ks ds passes a b))
+    pub lengths_answered : length ks ≡ length is → length ds ≡ length is → accepted ≡ answer
+    lengths_answered a b = sym (lengths_pass (tree_of w) s is ks ds passes a b)
 
 -- THE ANSWER
-module _ (w : TreeWords) (s : LockState) (is ks ds : List ℕ) (r : Refusal) (e : r ≡ refusal_words (early_refusal (tree_of w) s is ks ds)) where
-  pub refused_answered : (r.number ≡ 0 → ⊥) → (p : ℕ) → p ≡ r.place → record { number = r.number; place = p; checked = 0; state = s } ≡ steps_answer w s is ks ds
-  unfolding steps_answer
-  refused_answered n p f = rw (f, e, ne_eqb (early_refusal (tree_of w) s is ks ds).number 0 (refusal_words_not r _ e n))
+module _ (w : TreeWords) (s : LockState) (is ks ds : List ℕ) where
+  pub refused_answered : (x : Refusal) → refusal (number_of x.reason) x.place ≡ early_refusal (tree_of w) s is ks ds → record { number = number_of x.reason; place = x.place; checked = 0; state = s } ≡ steps_answer w s is ks ds
+  unfolding steps_answer refusal
+  refused_answered x e = let n = ne_eqb (early_refusal (tree_of w) s is ks ds).number 0 (error_numbered x e) in rw (n, sym e)
 
-  module _ (z : r.number ≡ 0) where
+  module _ (e : accepted ≡ early_refusal (tree_of w) s is ks ds) where
     zero : (early_refusal (tree_of w) s is ks ds).number ≡ 0
-    zero = refusal_words_zero r _ e z
+    zero = ok_numbered e
 
     pub ready : Typed s.words → Ready (tree_of w) s
     unfolding check_refusal CheckRefusalLaw AcceptedLaw
@@ -68,8 +67,17 @@ module _ (w : TreeWords) (s : LockState) (is ks ds : List ℕ) (r : Refusal) (e 
     pub domains_long : length ds ≡ length is
     domains_long = (early_passes (tree_of w) s is ks ds zero).1.1
 
-    pub steps_answered :
-        (f : Found) (s' : LockState) (p : ℕ) → f ≡ found_of (checked (tree_of w) s is ks ds) → s' ≡ (checked (tree_of w) s is ks ds).state → p ≡ cond (eqb f.number 0) 0 f.steps →
-        record { number = f.number; place = p; checked = f.steps; state = s' } ≡ steps_answer w s is ks ds
+    -- a step is wrong, or all are right
+    pub stop_answered : (reason : Reason) (m : ℕ) (left : LockState) → Says (checked (tree_of w) s is ks ds) (number_of reason) m left →
+        record { number = number_of reason; place = m; checked = m; state = left } ≡ steps_answer w s is ks ds
     unfolding steps_answer
-    steps_answered f s' p g h q = rw (q, g, h, eq-eqb (early_refusal (tree_of w) s is ks ds).number 0 zero)
+    stop_answered reason m left g =
+        let n = ne_eqb (checked (tree_of w) s is ks ds).number 0 (λ z. reason_numbered reason (g.number ∙ z)) in
+        rw (eq-eqb (early_refusal (tree_of w) s is ks ds).number 0 zero, n, g.number, g.steps, g.state)
+
+    pub end_answered : (m : ℕ) (left : LockState) → Says (checked (tree_of w) s is ks ds) 0 m left →
+        record { number = 0; place = 0; checked = m; state = left } ≡ steps_answer w s is ks ds
+    unfolding steps_answer
+    end_answered m left g =
+        let n = eq-eqb (checked (tree_of w) s is ks ds).number 0 (sym g.number) in
+        rw (eq-eqb (early_refusal (tree_of w) s is ks ds).number 0 zero, n, sym g.number, g.steps, g.state)

@@ -5,6 +5,7 @@ use mathlib.Core.List.{List, [], ◌∷◌}
 use mathlib.Core.Logic.{◌≢◌}
 use Prim.Native.Nat.{ℕ, zero, suc, ◌/◌, ◌%◌, ◌≤◌, ◌<◌}
 use native.Mathlib.Omega.{arith}
+use Rattle.std.specs.Prelude.{Option, Some, None, is_some}
 use native.Mathlib.Decide.{ℕ_discrete}
 use lib.Dec.{eqb}
 use lib.ListN.{length, take, get_or}
@@ -27,15 +28,41 @@ use Rattle.model.proofs.Trees.Accepted.{sixteen_bit}
 use Rattle.model.proofs.Trees.Reading.{few_threads}
 use Rattle.rows.specs.Common.Standing.{row_domain}
 use Rattle.refusals.specs.Lowest.{Lowest}
+use Rattle.refusals.specs.declared.reasons.Reason.{Reason}
+use Rattle.refusals.specs.Reasons.{number_of}
+use Rattle.refusals.proofs.Refusing.{reason_numbered}
 use Rattle.lock.specs.Steps.Running.{step_code, codes_front}
 use Rattle.lock.proofs.steps.StepCodes.{code_kind, domain_of_code}
 use Rattle.lock.proofs.steps.Reporting.{reported_front_length}
-use Rattle.journal.specs.StepCheck.Answers.{checked}
+use Rattle.journal.specs.StepCheck.Answers.{Checked, checked}
 use Rattle.journal.specs.StepCheck.Laws.{after_first}
 use Rattle.journal.proofs.step_check.Checking.{above_at, number_26, number_29, number_0, number_at, Right, all_right, stops_at}
 use Rattle.journal_call.specs.declared.step_check.pieces.Found.{Found}
-use Rattle.journal_call.specs.StepCheck.Stretches.{found_of, Ready, Stretch, same_kind, same_domain, differs, Comparable}
+use Rattle.journal_call.specs.StepCheck.Stretches.{refused_number, Ready, Stretch, same_kind, same_domain, differs, Comparable}
 use Rattle.journal_call.proofs.step_check.Stretching.{all_known}
+
+-- the parts of what is found for named steps
+pub record Says (c : Checked) (n m : ℕ) (left : LockState) : Type 0 where
+  pub number : n ≡ c.number
+  pub steps : m ≡ c.steps
+  pub state : left ≡ c.state
+
+pub says : {c : Checked} {n m : ℕ} {s : LockState} → record { number = n; steps = m; state = s } ≡ c → Says c n m s
+says e = record { number = ap (λ v. v.number) e; steps = ap (λ v. v.steps) e; state = ap (λ v. v.state) e }
+
+-- a step is refused by a number, and by none if nothing refuses it
+pub some_refused : (r : Option Reason) → is_some r ≡ true → refused_number r ≢ 0
+some_refused (Some reason) e z = reason_numbered reason z
+some_refused None e z = absurd (let y : ◌≡◌ {A = ℕ} 0 1 = ap (λ v. cond v 1 0) e in omega arith)
+
+pub none_refused : (r : Option Reason) → is_some r ≡ false → refused_number r ≡ 0
+none_refused (Some reason) e = absurd (let y : ◌≡◌ {A = ℕ} 1 0 = ap (λ v. cond v 1 0) e in omega arith)
+none_refused None e = refl
+
+-- the state that the run's loop leaves, from its words and counters
+pub stepped : (t : Tree) (s : LockState) (is : List ℕ) (m : ℕ) (left : LockState) → left.words ≡ (run t (take m is) s.words).state → left.counters ≡ counters_after t s.counters (steps t (take m is) s.words) → left ≡ after_first t s is m
+unfolding run run_of lock_after
+stepped t s is m left e f = let each : record { words = left.words; counters = left.counters } ≡ after_first t s is m = rw (e, f) in each
 
 -- what the loop reported for each step
 code_at :
@@ -140,26 +167,22 @@ module _ (w : TreeWords) (s : LockState) (is ks ds : List ℕ) (g : Ready (tree_
       so_far n h j l = right j (omega (arith, L.within)) (L.passed j (omega arith))
 
       -- no step is wrong
-      pub piece_passes : st.steps ≤ m → (record { number = st.number; steps = st.steps } ≡ found_of (checked t s is ks ds)) × (after_first t s is st.steps ≡ (checked t s is ks ds).state)
+      pub piece_passes : st.steps ≤ m → Says (checked t s is ks ds) (refused_number st.refused) st.steps (after_first t s is st.steps)
       piece_passes h =
-          let all : checked t s is ks ds ≡ record { number = st.number; steps = st.steps; state = after_first t s is st.steps } =
-          elim (ℕ_discrete st.number 0) [
+          let n = refused_number st.refused in
+          let all : checked t s is ks ds ≡ record { number = n; steps = st.steps; state = after_first t s is st.steps } =
+          elim (ℕ_discrete n 0) [
             | yes z ↦
                 let whole = S.goes_on z in
                 all_right t s is ks ds ks_long ds_long (so_far (length is) (omega (arith, whole))) ∙ rw (whole, z)
-            | no z ↦ stops_at t s is ks ds st.steps st.number ks_long ds_long (S.stops z) (so_far st.steps h) (S.refuses z _ _) z
+            | no z ↦ stops_at t s is ks ds st.steps n ks_long ds_long (S.stops z) (so_far st.steps h) (S.refuses z _ _) z
           ] in
-          (ap found_of (sym all), ap (λ v. v.state) (sym all))
+          says (sym all)
 
       -- a step is wrong
       pub piece_stops :
-          m < st.steps → (number : ℕ) → number ≡ cond (eqb (get_or ks m 0) (get_or codes m 0 % 8)) 29 26 →
-          (record { number = number; steps = m } ≡ found_of (checked t s is ks ds)) × (after_first t s is m ≡ (checked t s is ks ds).state)
-      piece_stops h number e =
+          m < st.steps → (reason : Reason) → number_of reason ≡ cond (eqb (get_or ks m 0) (get_or codes m 0 % 8)) 29 26 →
+          Says (checked t s is ks ds) (number_of reason) m (after_first t s is m)
+      piece_stops h reason e =
           let n = wrong m h (L.fails h) in
-          let all = stops_at t s is ks ds m number ks_long ds_long (omega (arith, S.within)) (so_far m (omega arith)) (n ∙ sym e) (not_zero (eqb (get_or ks m 0) (get_or codes m 0 % 8)) e) in
-          (ap found_of (sym all), ap (λ v. v.state) (sym all))
-        where
-          not_zero : (b : Bool) {n : ℕ} → n ≡ cond b 29 26 → n ≢ 0
-          not_zero true e z = absurd (omega arith)
-          not_zero false e z = absurd (omega arith)
+          says (sym (stops_at t s is ks ds m (number_of reason) ks_long ds_long (omega (arith, S.within)) (so_far m (omega arith)) (n ∙ sym e) (reason_numbered reason)))

@@ -3,7 +3,7 @@ use mathlib.Core.Path.{◌≡◌, refl, sym, ap, ◌∙◌, subst}
 use mathlib.Core.Bool.{Bool, true, false}
 use mathlib.Core.List.{List, [], ◌∷◌}
 use mathlib.Core.Logic.{◌≢◌, inl, inr}
-use Prim.Native.Nat.{ℕ, suc, ◌+◌, ◌-◌, ◌≤◌, ◌<◌}
+use Prim.Native.Nat.{ℕ, suc, ◌+◌, ◌≤◌, ◌<◌}
 use native.Mathlib.Omega.{arith}
 use lib.ListN.{length, take, get_or}
 use lib.Seq.{length-take-le, get_or-take, take-take}
@@ -19,12 +19,13 @@ use Rattle.model.proofs.Refusing.{test_skipped, numbered}
 use Rattle.model.proofs.Laws.Calls.{early_accepted}
 use Rattle.model.proofs.Laws.Refusals.{accepted_number, lowest, refusal_law}
 use Rattle.model.proofs.Laws.Runs.{steps_take}
-use Rattle.refusals.specs.declared.Refusal.{Refusal}
-use Rattle.refusals.specs.Arrays.{refusal_words}
+use Rattle.refusals.specs.declared.reasons.Reason.TheVariants.{BadEntry, CounterFull}
+use Rattle.refusals.specs.declared.reasons.Refusal.{Refusal}
+use Rattle.refusals.specs.Reasons.{number_of}
 use Rattle.std.specs.Prelude.{Option, Some, None, unwrap_or}
 use Rattle.refusals.specs.Lowest.{Lowest, or_end}
 use Rattle.refusals.proofs.Scanning.{test_hit}
-use Rattle.refusals.proofs.RunTests.{refusal_words_not, refusal_words_zero}
+use Rattle.refusals.proofs.Refusing.{reason_numbered, error_numbered}
 use Rattle.journal.specs.StepCheck.Laws.{after_first}
 use Rattle.journal.proofs.step_check.Checking.{above_at, number_12, number_19}
 use Rattle.journal_call.specs.StepCheck.Stretches.{Ready, unknown, Stretch}
@@ -68,12 +69,12 @@ module _ (w : TreeWords) (s : LockState) (is : List ℕ) (g : Ready (tree_of w) 
   abbrev t : Tree
   t = tree_of w
 
-  -- the first entries, written as a part from 0 on
+  -- the first entries
   abbrev js : List ℕ
-  js = take (m - 0) is
+  js = take m is
 
   long : length js ≡ m
-  long = length-take-le (m - 0) is (omega (arith, L.within)) ∙ omega arith
+  long = length-take-le m is L.within
 
   known : (j : ℕ) → j < m → get_or is j 0 < t.threads
   unfolding tree_of
@@ -88,64 +89,62 @@ module _ (w : TreeWords) (s : LockState) (is : List ℕ) (g : Ready (tree_of w) 
         form = g.form;
         counts = g.counts;
         short = omega (arith, long, L.within);
-        threads = all_known t js (λ j h. subst (λ v. v < t.threads) (sym (get_or-take (m - 0) is j 0 (omega (arith, long)))) (known j (omega (arith, long))));
+        threads = all_known t js (λ j h. subst (λ v. v < t.threads) (sym (get_or-take m is j 0 (omega (arith, long)))) (known j (omega (arith, long))));
         fits = omega arith;
       }))
       ∙ accepted_number
 
-  module _ (r : Refusal) (e : r ≡ refusal_words (first_refusal (counter_tests t s js))) where
-    tests_exact : RefusesExactly (counter_tests t s js)
-    unfolding RefusalLaw has_number
-    tests_exact = refusal_law (counter_tests t s js) (numbered (counter_tests t s js) refl)
+  tests_exact : RefusesExactly (counter_tests t s js)
+  unfolding RefusalLaw has_number
+  tests_exact = refusal_law (counter_tests t s js) (numbered (counter_tests t s js) refl)
 
-    -- 19 stops the stretch
-    pub counter_stops : (r.number ≡ 0 → ⊥) → (p : ℕ) → p ≡ r.place → Stretch t s is (record { number = 19; steps = p })
-    unfolding refusal
-    counter_stops n p at =
-        let q = first_refusal (counter_tests t s js) in
-        let n' : q.number ≢ 0 = refusal_words_not r _ e n in
-        let one = one_refused (bad_counter t s js) (length js) n' in
-        let there : p ≡ q.place = at ∙ ap (λ v. v.place) e in
-        let inside : p < m = omega (arith, one.within, there, long) in
+  -- 19 stops the stretch
+  pub counter_stops : (x : Refusal) → refusal (number_of x.reason) x.place ≡ first_refusal (counter_tests t s js) → (p : ℕ) → p ≡ x.place → Stretch t s is (record { refused = Some CounterFull; steps = p })
+  unfolding refusal
+  counter_stops x e p at =
+      let q = first_refusal (counter_tests t s js) in
+      let one = one_refused (bad_counter t s js) (length js) (error_numbered x e) in
+      let there : p ≡ q.place = at ∙ ap (λ v. v.place) e in
+      let inside : p < m = omega (arith, one.within, there, long) in
+      record {
+        within = omega (arith, inside, L.within);
+        known = λ j h. known j (omega (arith, inside));
+        low = λ j h. sym (taken_counter t s is m j (omega (arith, inside))) ∙ one.below j (omega (arith, there));
+        goes_on = λ z. absurd (reason_numbered CounterFull z);
+        stops = λ _. omega (arith, inside, L.within);
+        refuses = λ _ k d.
+            number_19 t (after_first t s is p) (get_or is p 0) k d (known p inside)
+            (above_at t s is p (omega (arith, inside, L.within)) ∙ sym (taken_counter t s is m p (omega (arith, inside))) ∙ rw there one.bad);
+      }
+
+  module _ (z : accepted ≡ first_refusal (counter_tests t s js)) where
+    low : (j : ℕ) → j < m → bad_counter t s is j ≡ false
+    unfolding AllPass
+    low j h =
+        let pass = tests_exact.passed.0 (sym z) in
+        sym (taken_counter t s is m j (omega arith)) ∙ pass.0 j (omega (arith, long))
+
+    -- 12 stops the stretch
+    pub thread_stops : m < length is → Stretch t s is (record { refused = Some BadEntry; steps = m })
+    unfolding tree_of
+    thread_stops h =
         record {
-          within = omega (arith, inside, L.within);
-          known = λ j h. known j (omega (arith, inside));
-          low = λ j h. sym (taken_counter t s is (m - 0) j (omega (arith, inside))) ∙ one.below j (omega (arith, there));
-          goes_on = λ z. absurd (omega arith);
-          stops = λ _. omega (arith, inside, L.within);
-          refuses = λ _ k d.
-              number_19 t (after_first t s is p) (get_or is p 0) k d (known p inside)
-              (above_at t s is p (omega (arith, inside, L.within)) ∙ sym (taken_counter t s is (m - 0) p (omega (arith, inside))) ∙ rw there one.bad);
+          within = L.within;
+          known = known;
+          low = low;
+          goes_on = λ z. absurd (reason_numbered BadEntry z);
+          stops = λ _. h;
+          refuses = λ _ k d. number_12 t (after_first t s is m) (get_or is m 0) k d (leb-true w.threads (get_or is m 0) (L.fails h));
         }
 
-    module _ (z : r.number ≡ 0) where
-      low : (j : ℕ) → j < m → bad_counter t s is j ≡ false
-      unfolding AllPass
-      low j h =
-          let pass = tests_exact.passed.0 (tests_exact.zero_accepted (refusal_words_zero r _ e z)) in
-          sym (taken_counter t s is (m - 0) j (omega arith)) ∙ pass.0 j (omega (arith, long))
-
-      -- 12 stops the stretch
-      pub thread_stops : m < length is → Stretch t s is (record { number = 12; steps = m })
-      unfolding tree_of
-      thread_stops h =
-          record {
-            within = L.within;
-            known = known;
-            low = low;
-            goes_on = λ z. absurd (omega arith);
-            stops = λ _. h;
-            refuses = λ _ k d. number_12 t (after_first t s is m) (get_or is m 0) k d (leb-true w.threads (get_or is m 0) (L.fails h));
-          }
-
-      -- nothing stops it
-      pub nothing_stops : length is ≤ m → Stretch t s is (record { number = 0; steps = m })
-      nothing_stops h =
-          record {
-            within = L.within;
-            known = known;
-            low = low;
-            goes_on = λ _. omega (arith, L.within);
-            stops = λ n. absurd (n refl);
-            refuses = λ n k d. absurd (n refl);
-          }
+    -- nothing stops it
+    pub nothing_stops : length is ≤ m → Stretch t s is (record { refused = None; steps = m })
+    nothing_stops h =
+        record {
+          within = L.within;
+          known = known;
+          low = low;
+          goes_on = λ _. omega (arith, L.within);
+          stops = λ n. absurd (n refl);
+          refuses = λ n k d. absurd (n refl);
+        }

@@ -1,11 +1,12 @@
 -- Named steps piece by piece.
 use mathlib.Core.Path.{◌≡◌, refl, sym, ap, ◌∙◌}
-use mathlib.Core.List.{List, ◌++◌}
+use mathlib.Core.List.{List, [], ◌++◌}
 use mathlib.Core.Logic.{◌≢◌}
 use Prim.Native.Nat.{ℕ, ◌+◌, ◌-◌, ◌≤◌}
 use native.Mathlib.Omega.{arith}
 use lib.ListN.{length, take, drop, take-append-drop, length-drop}
-use lib.Seq.{length-take-le, take_all, drop-drop}
+use lib.Seq.{length-take-le, drop-drop}
+use Rattle.std.proofs.lemmas.List.{drop_all}
 use borrow.Author.Tests.{eq-eqb, ne_eqb}
 use Rattle.model.specs.declared.TreeWords.{TreeWords}
 use Rattle.model.specs.declared.LockState.{LockState}
@@ -14,7 +15,8 @@ use Rattle.model.proofs.Trees.Accepted.{sixteen_bit}
 use Rattle.journal.specs.StepCheck.Answers.{Checked, checked}
 use Rattle.journal.proofs.step_check.Checking.{shifted, then_checked, checked_join}
 use Rattle.journal.proofs.step_check.Keeping.{checked_kept, checked_full, checked_few}
-use Rattle.journal_call.specs.StepCheck.Stretches.{found_of, Ready, PieceFits}
+use Rattle.journal_call.specs.StepCheck.Stretches.{Ready, PieceFits}
+use Rattle.journal_call.proofs.step_check.Piecing.{Says, says}
 
 -- some steps are checked, and those ahead decide the rest
 pub record SoFar (t : Tree) (s₀ : LockState) (is ks ds : List ℕ) (s : LockState) (at : ℕ) : Type 0 where
@@ -28,6 +30,14 @@ module _ (w : TreeWords) (s₀ : LockState) (is ks ds : List ℕ) (a : length ks
 
   pub none_yet : Ready t s₀ → SoFar t s₀ is ks ds s₀ 0
   none_yet g = record { ready = g; within = omega arith; ahead = let z : 0 + (checked t s₀ is ks ds).steps ≡ (checked t s₀ is ks ds).steps = omega arith in rw z }
+
+  -- no step is left, and none was wrong
+  pub ends : (s : LockState) (at : ℕ) → SoFar t s₀ is ks ds s at → length is ≤ at → Says (checked t s₀ is ks ds) 0 at s
+  unfolding checked
+  ends s at g h =
+      let none : drop at is ≡ [] = drop_all at is h in
+      let z : at + 0 ≡ at = omega arith in
+      says (sym (g.ahead ∙ rw (none, z)))
 
   module _ (s : LockState) (at end : ℕ) (g : SoFar t s₀ is ks ds s at) (from : at ≤ end) (to : end ≤ length is) where
     abbrev piece : List ℕ → List ℕ
@@ -63,11 +73,11 @@ module _ (w : TreeWords) (s₀ : LockState) (is ks ds : List ℕ) (a : length ks
         ∙ checked_join t s (piece is) (piece ks) (piece ds) (drop end is) (drop end ks) (drop end ds) (piece_long ks a ∙ sym (piece_long is refl)) (piece_long ds b ∙ sym (piece_long is refl)))
 
     -- a step is wrong
-    pub stops : c.number ≢ 0 → (record { number = c.number; steps = at + c.steps } ≡ found_of (checked t s₀ is ks ds)) × (c.state ≡ (checked t s₀ is ks ds).state)
+    pub stops : c.number ≢ 0 → Says (checked t s₀ is ks ds) c.number (at + c.steps) c.state
     unfolding then_checked
     stops n =
         let all : checked t s₀ is ks ds ≡ shifted at c = whole ∙ rw (ne_eqb c.number 0 n) in
-        (ap found_of (sym all), ap (λ v. v.state) (sym all))
+        says (sym all)
 
     -- no step is wrong: the next piece follows
     pub goes_on : c.number ≡ 0 → (s' : LockState) → s' ≡ c.state → SoFar t s₀ is ks ds s' end
@@ -83,14 +93,6 @@ module _ (w : TreeWords) (s₀ : LockState) (is ks ds : List ℕ) (a : length ks
           within = to;
           ahead = whole ∙ rw (eq-eqb c.number 0 z) (rw (e, y));
         }
-
-    -- the last piece
-    pub ends : end ≡ length is → (record { number = c.number; steps = at + c.steps } ≡ found_of (checked t s₀ is ks ds)) × (c.state ≡ (checked t s₀ is ks ds).state)
-    ends e =
-        let rest : (l : List ℕ) → length l ≡ length is → piece l ≡ drop at l = λ l f. take_all (end - at) (drop at l) (omega (arith, length-drop at l)) in
-        let same : c ≡ checked t s (drop at is) (drop at ks) (drop at ds) = rw (rest is refl, rest ks a, rest ds b) in
-        let all : checked t s₀ is ks ds ≡ shifted at c = g.ahead ∙ ap (shifted at) (sym same) in
-        (ap found_of (sym all), ap (λ v. v.state) (sym all))
 
     -- the steps so far are at most all steps
     pub steps_few : (n : ℕ) → n ≡ c.steps → at + n ≤ length is

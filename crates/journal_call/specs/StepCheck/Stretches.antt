@@ -1,25 +1,22 @@
 -- The steps of a piece as the run's loop takes and reports them, compared with the named steps.
-use Rattle.std.specs.Prelude.{◌≡◌, Bool, true, false, ◌&&◌, not, List, ◌≢◌, ℕ, ◌/◌, ◌%◌, ◌≤◌, ◌<◌, eqb, leb, length, get_or}
+use Rattle.std.specs.Prelude.{◌≡◌, Bool, true, false, ◌&&◌, not, Option, None, Some, List, ◌≢◌, ℕ, ◌/◌, ◌%◌, ◌≤◌, ◌<◌, eqb, leb, length, get_or}
 use Rattle.model.specs.declared.LockState.{LockState}
 use Rattle.model.specs.Trees.{Tree}
 use Rattle.model.specs.WellFormed.{well_formed}
-use Rattle.model.specs.Counters.{lock_state, good_counts}
+use Rattle.model.specs.Counters.{good_counts}
 use Rattle.model.specs.Refusals.{tree_refusal, bad_counter}
 use Rattle.model.specs.Laws.{Typed}
-use Rattle.refusals.specs.Arrays.{lent_state}
-use Rattle.refusals.specs.OfRuns.Counts.{counters_in}
+use Rattle.refusals.specs.declared.reasons.Reason.{Reason}
+use Rattle.refusals.specs.Reasons.{number_of}
 use Rattle.rows.specs.Common.Standing.{row_domain}
-use Rattle.journal.specs.StepCheck.Answers.{Checked, step_number}
+use Rattle.journal.specs.StepCheck.Answers.{step_number}
 use Rattle.journal.specs.StepCheck.Laws.{after_first}
 use Rattle.journal_call.specs.declared.step_check.pieces.Found.{Found}
 
--- a lock state with these borrowed arrays
-abbrev pub lent_lock : (tails nexts statuses rows domains peers words : List ℕ) → (ticket grant : ℕ) → (entries tenures longest : List ℕ) → LockState
-lent_lock ts ns vs rs ds ps ws v g es ms ls = lock_state (lent_state ts ns vs rs ds ps ws v g) (counters_in es ms ls)
-
--- without the state: how many steps are right, and the number that refuses the next one
-abbrev pub found_of : Checked → Found
-found_of c = record { number = c.number; steps = c.steps }
+-- the number that refuses the next step; 0 if none does
+abbrev pub refused_number : Option Reason → ℕ
+refused_number None = 0
+refused_number (Some reason) = number_of reason
 
 -- an accepted tree and a state that a call accepts
 pub record Ready (t : Tree) (s : LockState) : Type 0 where
@@ -37,9 +34,9 @@ pub record Stretch (t : Tree) (s : LockState) (threads : List ℕ) (found : Foun
   pub within : found.steps ≤ length threads
   pub known : (j : ℕ) → j < found.steps → get_or threads j 0 < t.threads
   pub low : (j : ℕ) → j < found.steps → bad_counter t s threads j ≡ false
-  pub goes_on : found.number ≡ 0 → found.steps ≡ length threads
-  pub stops : found.number ≢ 0 → found.steps < length threads
-  pub refuses : found.number ≢ 0 → (k d : ℕ) → step_number t (after_first t s threads found.steps) (get_or threads found.steps 0) k d ≡ found.number
+  pub goes_on : refused_number found.refused ≡ 0 → found.steps ≡ length threads
+  pub stops : refused_number found.refused ≢ 0 → found.steps < length threads
+  pub refuses : refused_number found.refused ≢ 0 → (k d : ℕ) → step_number t (after_first t s threads found.steps) (get_or threads found.steps 0) k d ≡ refused_number found.refused
 
 -- the named kind is the one that the run's loop reported for the step, in the lowest three bits of its number
 abbrev pub same_kind : (kinds codes : List ℕ) → (position : ℕ) → Bool

@@ -1,6 +1,7 @@
 // Threads compared with the tree, and named steps with what the run's loop reported. A whole list is compared first, without an early exit, so that the compiler can compare many at once; the first that is wrong is searched only if there is one.
 ghost use Rattle.std.specs.Prelude.{◌≡◌, true, cond, ◌/◌, ◌%◌, ◌≤◌, ◌<◌, eqb, length, IfSome};
 ghost use Rattle.refusals.specs.Lowest.{Lowest, or_end};
+ghost use Rattle.refusals.specs.Reasons.{number_of};
 ghost use Rattle.rows.specs.Common.Standing.{row_domain};
 ghost use Rattle.journal_call.specs.Kinds.{AllSameKinds};
 ghost use Rattle.journal_call.specs.StepCheck.Stretches.{unknown, differs, NoneLarger, HaveHomes, HomesOf, AllSameDomains, AllSame, Comparable};
@@ -127,12 +128,12 @@ pub(crate) fn first_difference(
     None
 }
 
-// The number that refuses a named step, given whether its kind is the step's.
-pub(crate) fn number_of(kind: u16, code: u16) -> u32
-    ensures { result ≡ cond (eqb kind (code % 8)) 29 26 }
+// What refuses a named step, given whether its kind is the step's.
+pub(crate) fn reason_of(kind: u16, code: u16) -> Reason
+    ensures { number_of result ≡ cond (eqb kind (code % 8)) 29 26 }
 {
     if kind == code % 8 {
-        return Reason::OtherDomain.number();
+        return Reason::OtherDomain;
     }
-    Reason::OtherKind.number()
+    Reason::OtherKind
 }

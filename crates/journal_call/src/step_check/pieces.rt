@@ -2,7 +2,7 @@
 ghost use Rattle.std.specs.Prelude.{◌≡◌, ◌≤◌, length};
 ghost use Rattle.model.specs.Trees.{tree_of};
 ghost use Rattle.journal.specs.StepCheck.Answers.{checked};
-ghost use Rattle.journal_call.specs.StepCheck.Stretches.{found_of, Ready, Stretch, PieceFits};
+ghost use Rattle.journal_call.specs.StepCheck.Stretches.{refused_number, Ready, Stretch, PieceFits};
 
 use crate::step_check::comparison;
 use lock::steps::{limits, run};
@@ -22,7 +22,7 @@ fn stretch_of(tree: &TreeWords, state: &LockState, threads: &[u16]) -> Found
     requires threads_len_bound { length threads.now ≤ 1024 }
     ensures { Stretch (tree_of tree.now) state.now threads.now result }
 {
-    let known = comparison::first_unknown(threads, tree.threads);
+    let known = comparison::first_unknown(threads, tree.threads).unwrap_or(threads.len());
     match limits::lent_counter_refusal_of(tree, state, &threads[..known]) {
         Err(refusal) => Found {
             refused: Some(Reason::CounterFull),
@@ -47,7 +47,8 @@ fn check_piece(
 ) -> Found
     requires ready { Ready (tree_of tree.now) state.old }
     requires piece_fits { PieceFits threads.now kinds.now domains.now trace.old codes.old }
-    ensures result_value { result ≡ found_of (checked (tree_of tree.now) state.old threads.now kinds.now domains.now) }
+    ensures number { refused_number result.refused ≡ (checked (tree_of tree.now) state.old threads.now kinds.now domains.now).number }
+    ensures steps { result.steps ≡ (checked (tree_of tree.now) state.old threads.now kinds.now domains.now).steps }
     ensures state_after { state.new ≡ (checked (tree_of tree.now) state.old threads.now kinds.now domains.now).state }
     ensures trace_len_unchanged { length trace.new ≡ length trace.old }
     ensures codes_len_unchanged { length codes.new ≡ length codes.old }
@@ -56,16 +57,17 @@ fn check_piece(
     let kept = *state;
     let mut tally = [0u32; 6];
     run::run_lent(tree, state, &threads[..stretch.steps], trace, &mut tally, codes);
-    let same = comparison::first_difference(&tree.homes, threads, kinds, domains, codes, stretch.steps);
-    if stretch.steps <= same {
-        return stretch;
-    }
-    let refused = comparison::reason_of(kinds[same], codes[same]);
-    *state = kept;
-    run::run_lent(tree, state, &threads[..same], trace, &mut tally, codes);
-    Found {
-        refused: Some(refused),
-        steps: same,
+    match comparison::first_difference(&tree.homes, threads, kinds, domains, codes, stretch.steps) {
+        None => stretch,
+        Some(same) => {
+            let refused = comparison::reason_of(kinds[same], codes[same]);
+            *state = kept;
+            run::run_lent(tree, state, &threads[..same], trace, &mut tally, codes);
+            Found {
+                refused: Some(refused),
+                steps: same,
+            }
+        }
     }
 }
 
@@ -84,12 +86,13 @@ pub(crate) fn check_all(
     requires domains_len { length domains.now ≡ length threads.now }
     requires trace_len { length trace.old ≡ 1024 }
     requires codes_len { length codes.old ≡ 1024 }
-    ensures result_value { result ≡ found_of (checked (tree_of tree.now) state.old threads.now kinds.now domains.now) }
+    ensures number { refused_number result.refused ≡ (checked (tree_of tree.now) state.old threads.now kinds.now domains.now).number }
+    ensures steps { result.steps ≡ (checked (tree_of tree.now) state.old threads.now kinds.now domains.now).steps }
     ensures state_after { state.new ≡ (checked (tree_of tree.now) state.old threads.now kinds.now domains.now).state }
 {
-    let mut at: usize = 0;
-    while 1024 < threads.len() - at {
-        let end = at + 1024;
+    let mut at = 0;
+    while at < threads.len() {
+        let end = at + (threads.len() - at).min(1024);
         let found = check_piece(
             tree,
             state,
@@ -101,15 +104,14 @@ pub(crate) fn check_all(
         );
         if found.refused.is_some() {
             return Found {
-                refused: found.refused,
                 steps: at + found.steps,
+                ..found
             };
         }
         at = end;
     }
-    let last = check_piece(tree, state, &threads[at..], &kinds[at..], &domains[at..], trace, codes);
     Found {
-        refused: last.refused,
-        steps: at + last.steps,
+        refused: None,
+        steps: at,
     }
 }

@@ -1,9 +1,0 @@
--- `journal_call::step_check::place_of` meets its contract: the number is compared.
-use borrow.Author.Tests.{eq-eqb, ne_eqb}
-use Rattle.journal_call.proofs.step_check.place_of.Goals as goal
-
-pub returns-then-number-eq0 : goal.returns-then-number-eq0
-returns-then-number-eq0 c = rw (eq-eqb _ _ c.if-number-eq0.true)
-
-pub returns : goal.returns
-returns c = rw (ne_eqb _ _ c.if-number-eq0.false)
