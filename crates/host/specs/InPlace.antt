@@ -20,10 +20,6 @@ fresh_without_state r = record { number = r.number; place = r.place }
 unfoldable pub fresh_left : FreshReply → (before : LockState) → LockState
 fresh_left r s = cond (eqb r.number 0) r.state s
 
--- the same reply with the state that is left
-abbrev pub fresh_kept : FreshReply → (before : LockState) → FreshReply
-fresh_kept r s = record { number = r.number; place = r.place; state = fresh_left r s }
-
 -- the reply of a step without the state
 abbrev pub step_without_state : StepReply → StepAnswer
 step_without_state r = record { number = r.number; place = r.place; kind = r.kind; domain = r.domain }

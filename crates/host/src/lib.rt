@@ -27,8 +27,8 @@ use journal::step_check::StepsReply;
 use kinds::KindsReply;
 use lock_file::ReadReply;
 use model::{FreshReply, LockState, RunReply, StepReply, TreeWords};
-use refusals::reasons::Refusal;
 use rate::{PassingTimes, RateReply};
+use refusals::reasons::Refusal;
 use schedules::ManyReply;
 use text_tree::TextReply;
 use waits::WaitsReply;
@@ -82,7 +82,8 @@ pub extern "C" fn hmcs_run(
 }
 
 // The number and place of what the tests found.
-fn answer(tested: Result<(), Refusal>) -> Answer
+#[tactic(auto, unfolding(model::specs::Refusals::accepted, model::specs::Refusals::refusal))]
+fn answered(tested: Result<(), Refusal>) -> Answer
     ensures { result ≡ answer_of (refusal_of tested) }
 {
     match tested {
@@ -292,7 +293,7 @@ pub extern "C" fn hmcs_run_kinds(
 pub extern "C" fn hmcs_check_state(tree: TreeWords, state: LockState) -> Answer
     ensures { result ≡ answer_of (check_answer tree state) }
 {
-    answer(refusals::state_check::check_state(&tree, &state))
+    answered(refusals::state_check::check_state(&tree, &state))
 }
 
 // The chain of threads that a thread waits for, starting with itself, at the front of the chain buffer; if refused, the buffer is unchanged. It returns the number; place and length go to the host's pointers.
@@ -322,7 +323,7 @@ pub extern "C" fn hmcs_allowances(tree: TreeWords, allowances: &mut [u64; 64]) -
     ensures value { result ≡ answer_of (allowances_answer tree) }
     ensures allowances_after { allowances.new ≡ allowances_left tree allowances.old }
 {
-    answer(bounds_call::allowances(&tree, allowances))
+    answered(bounds_call::allowances(&tree, allowances))
 }
 
 // In how many rounds of any fair schedule every thread enters, and how many turns these are in round robin.
@@ -339,7 +340,7 @@ pub extern "C" fn hmcs_wait_bounds(tree: TreeWords, bounds: &mut [u64; 256]) -> 
     ensures value { result ≡ answer_of (wait_bounds_answer tree) }
     ensures bounds_after { bounds.new ≡ wait_bounds_left tree bounds.old }
 {
-    answer(bounds_call::wait_bounds::wait_bounds(&tree, bounds))
+    answered(bounds_call::wait_bounds::wait_bounds(&tree, bounds))
 }
 
 // The version of the library, for a host compiled with another version of the header.
