@@ -1,5 +1,6 @@
 // The rows of the step table with which a thread acquires, from its start to Inside: what each stores and counts, and what it reports about its step. `step` calls the row of a place and meets its requirements.
 ghost use Rattle.std.specs.Prelude.{◌≡◌, ◌<◌, false, if◌then◌else◌, nat_eq, slice_index};
+ghost use Rattle.model.specs.States.{status};
 ghost use Rattle.model.specs.Steps.{prep_row, swap_row, link_row, wait_row, draw_row, watch_row};
 ghost use Rattle.rows.specs.Common.Counting.{parent_in, RoomAbove, record_domain_in, Entered, Started};
 ghost use Rattle.rows.specs.Common.Standing.{is_entry_number, LeadsUp, Within};
@@ -123,18 +124,18 @@ pub fn draw(tree: &TreeWords, w: Member, words: &mut State, counters: &mut Count
 pub fn watch(
     tree: &TreeWords,
     w: Member,
+    v: u64,
+    granted: u16,
     place: PlaceWords,
-    words: &State,
     entries: &mut [u64; 64],
 ) -> Moved
     requires leads_up { LeadsUp tree.now }
-    requires home_lt_domains { (w.home < tree.now.domains) × (Within w × (w.domain ≡ 0)) }
+    requires home_lt_domains { (w.home < tree.now.domains) × (w.domain ≡ 0) }
     requires room_above { RoomAbove entries.old }
-    ensures row_done { RowDone (λ t i s. Stands t i w × place ≡ place_at s i) watch_row result words.now words.now }
+    ensures row_done { (s : State) → RowDone (λ t i s. Stands t i w × ((v ≡ status s w.own) × ((granted ≡ s.grant) × place ≡ place_at s i))) watch_row result s s }
     ensures entered { Entered (parent_in tree.now.domains tree.now.parents) (number_of_kind result.kind) w.home entries.old entries.new }
 {
-    let v = words.statuses[w.own as usize];
-    if v != u64::from(words.grant) {
+    if v != u64::from(granted) {
         return Moved::stay(place);
     }
     counting::count_entry(tree, w.home, entries);

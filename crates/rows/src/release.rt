@@ -1,6 +1,7 @@
 // The rows of the step table with which a thread releases, from Inside to Idle: what each stores and counts, and what it reports about its step. `step` calls the row of a place and meets its requirements.
 ghost use Rattle.std.specs.Prelude.{◌≡◌, ◌<◌, ◌≢◌, false, if◌then◌else◌, nat_eq, slice_index};
 ghost use Rattle.model.specs.declared.State.{State};
+ghost use Rattle.model.specs.States.{next};
 ghost use Rattle.model.specs.Steps.{leave_row, check_row, help_row, cas_row, linger_row, grant_row, raise_row};
 ghost use Rattle.rows.specs.Common.Counting.{RoomAbove, record_domain_in, raised_at, Started};
 ghost use Rattle.rows.specs.Common.Standing.{is_entry_number, Within};
@@ -41,13 +42,11 @@ pub fn check(tree: &TreeWords, w: Member, words: &State, longest: &mut [u64; 64]
     Moved::to(Kind::OtherMove, Place::Grant(l, n - 1, v + 1))
 }
 
-pub fn help(w: Member, words: &State) -> Moved
-    requires { Within w }
-    ensures row_done { RowDone (λ t i s. Stands t i w) (λ t i s. help_row t i w.domain s) result words.now words.now }
+pub fn help(w: Member, n: u16) -> Moved
+    ensures row_done { (s : State) → RowDone (λ t i s. Stands t i w × (n ≡ next s w.own)) (λ t i s. help_row t i w.domain s) result s s }
     ensures kind_value { is_entry_number (number_of_kind result.kind) ≡ false }
 {
     let l = w.domain;
-    let n = words.nexts[w.own as usize];
     if n == 0 {
         return Moved::to(Kind::OtherMove, Place::Cas(l));
     }
@@ -69,13 +68,11 @@ pub fn cas(w: Member, words: &mut State) -> Moved
     Moved::to(Kind::OtherMove, places::done_place_at(w.home, l, w.child))
 }
 
-pub fn linger(w: Member, place: PlaceWords, words: &State) -> Moved
-    requires { Within w }
-    ensures row_done { RowDone (λ t i s. Stands t i w × place ≡ place_at s i) (λ t i s. linger_row t i w.domain s) result words.now words.now }
+pub fn linger(w: Member, n: u16, place: PlaceWords) -> Moved
+    ensures row_done { (s : State) → RowDone (λ t i s. Stands t i w × ((n ≡ next s w.own) × place ≡ place_at s i)) (λ t i s. linger_row t i w.domain s) result s s }
     ensures kind_value { is_entry_number (number_of_kind result.kind) ≡ false }
 {
     let l = w.domain;
-    let n = words.nexts[w.own as usize];
     if n == 0 {
         return Moved::stay(place);
     }

@@ -34,6 +34,7 @@ pub fn take(
     let p = places::place_by_row(place);
     let l = places::domain_by_row(home, place.row, place.domain);
     let w = crate::common::member_at(tree, i, home, l);
+    let r = w.own as usize;
     match p {
         Place::Idle => acquire::start(tree, w, words, counters),
         Place::Prep(_) => acquire::prep(w, words),
@@ -42,12 +43,14 @@ pub fn take(
         Place::Wait(_) => acquire::wait(tree, w, place, words, &mut counters.entries),
         Place::Inside => release::leave(tree.ticket_root, home),
         Place::Check(_) => release::check(tree, w, words, &mut counters.longest),
-        Place::Help(_) => release::help(w, words),
+        Place::Help(_) => release::help(w, words.nexts[r]),
         Place::Cas(_) => release::cas(w, words),
-        Place::Linger(_) => release::linger(w, place, words),
+        Place::Linger(_) => release::linger(w, words.nexts[r], place),
         Place::Grant(_, to, v) => release::grant(w, to, v, words, counters),
         Place::Draw => acquire::draw(tree, w, words, counters),
-        Place::Watch => acquire::watch(tree, w, place, words, &mut counters.entries),
+        Place::Watch => {
+            acquire::watch(tree, w, words.statuses[r], words.grant, place, &mut counters.entries)
+        }
         Place::Raise => {
             counting::count_shown(looked, tree.domains, shown, counters);
             release::raise(w, words)

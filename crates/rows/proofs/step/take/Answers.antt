@@ -44,7 +44,7 @@ draw-requires c = let F = found (turn_of _ _ _ c.requires.ready) c.place_by_row-
 
 pub watch-requires : goal.watch-requires
 watch-requires c = let F = found (turn_of _ _ _ c.requires.ready) c.place_by_row-p.ensures c.domain_by_row-l.ensures c.member_at-w.ensures in let f = fits F.turn in
-    record { leads_up = f.leads_up; home_lt_domains = (home_real F, (F.member.within, at_root F Watch c.in-Watch.is refl)); room_above = c.requires.room_above.0 }
+    record { leads_up = f.leads_up; home_lt_domains = (home_real F, at_root F Watch c.in-Watch.is refl); room_above = c.requires.room_above.0 }
 
 pub count_shown-requires : goal.count_shown-requires
 count_shown-requires c = record { domains_bound = (fits (turn_of _ _ _ c.requires.ready)).leads_up.few_domains; shown_for = c.requires.shown_for; room_above = c.requires.room_above.1 }
@@ -133,9 +133,9 @@ returns-in-Check c = let F = found (turn_of _ _ _ c.requires.ready) c.place_by_r
 pub returns-in-Help : goal.returns-in-Help
 unfolding started_in
 returns-in-Help c = let F = found (turn_of _ _ _ c.requires.ready) c.place_by_row-p.ensures c.domain_by_row-l.ensures c.member_at-w.ensures in
-    let same = c.in-Help.is in let done = c.help.ensures.row_done in
+    let same = c.in-Help.is in let done = c.help.ensures.row_done c.args.words.now in
     record {
-      fact = taken F (Help _) _ _ _ same done.places_kept (λ here. done.does _ _ (stands F));
+      fact = taken F (Help _) _ _ _ same done.places_kept (λ here. done.does _ _ (stands F, refl));
       entered = not_entered _ _ _ _ c.help.ensures.kind_value;
       counted_step = counted F (Help _) same refl refl _ _ _ _ _ 0 refl (record { added = refl; raised = refl });
       shown_left = shown_kept F (Help _) same refl _;
@@ -155,9 +155,9 @@ returns-in-Cas c = let F = found (turn_of _ _ _ c.requires.ready) c.place_by_row
 pub returns-in-Linger : goal.returns-in-Linger
 unfolding started_in
 returns-in-Linger c = let F = found (turn_of _ _ _ c.requires.ready) c.place_by_row-p.ensures c.domain_by_row-l.ensures c.member_at-w.ensures in
-    let same = c.in-Linger.is in let done = c.linger.ensures.row_done in
+    let same = c.in-Linger.is in let done = c.linger.ensures.row_done c.args.words.now in
     record {
-      fact = taken F (Linger _) _ _ _ same done.places_kept (λ here. done.does _ _ (stands F, sym here));
+      fact = taken F (Linger _) _ _ _ same done.places_kept (λ here. done.does _ _ (stands F, (refl, sym here)));
       entered = not_entered _ _ _ _ c.linger.ensures.kind_value;
       counted_step = counted F (Linger _) same refl refl _ _ _ _ _ 0 refl (record { added = refl; raised = refl });
       shown_left = shown_kept F (Linger _) same refl _;
@@ -188,9 +188,9 @@ returns-in-Draw c = let F = found (turn_of _ _ _ c.requires.ready) c.place_by_ro
 pub returns-in-Watch : goal.returns-in-Watch
 unfolding started_in
 returns-in-Watch c = let F = found (turn_of _ _ _ c.requires.ready) c.place_by_row-p.ensures c.domain_by_row-l.ensures c.member_at-w.ensures in
-    let same = c.in-Watch.is in let done = c.watch.ensures.row_done in
+    let same = c.in-Watch.is in let done = c.watch.ensures.row_done c.args.words.now in
     record {
-      fact = taken F Watch _ _ _ same done.places_kept (λ here. done.does _ _ (stands F, sym here));
+      fact = taken F Watch _ _ _ same done.places_kept (λ here. done.does _ _ (stands F, (refl, (refl, sym here))));
       entered = rw F.member.home_is at c.watch.ensures.entered;
       counted_step = counted F Watch same refl refl _ _ _ _ _ 0 refl (record { added = refl; raised = refl });
       shown_left = shown_kept F Watch same refl _;
