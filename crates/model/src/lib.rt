@@ -12,19 +12,6 @@ pub const UNLOCKED: u64 = 0;
 
 pub const LOCKED: u64 = 1;
 
-// The numbers of the kinds of a step.
-pub const STAY: u8 = 0;
-
-pub const OTHER_MOVE: u8 = 1;
-
-pub const ROOT_ENTRY: u8 = 2;
-
-pub const PASSED_ENTRY: u8 = 3;
-
-pub const CROSSED_ENTRY: u8 = 4;
-
-pub const LEAVING: u8 = 5;
-
 // A tree with its threads. The root's parent and threshold and the unused slots are not read. The root is a queue if ticket_root is 0, a ticket lock if it is any other number.
 #[repr(C)]
 #[derive(Clone, Copy)]

@@ -49,7 +49,14 @@ pub fn take(
         Place::Grant(_, to, v) => release::grant(w, to, v, words, counters),
         Place::Draw => acquire::draw(tree, w, words, counters),
         Place::Watch => {
-            acquire::watch(tree, w, words.statuses[r], words.grant, place, &mut counters.entries)
+            acquire::watch(
+                tree,
+                w,
+                words.statuses[r],
+                words.grant,
+                place,
+                &mut counters.entries,
+            )
         }
         Place::Raise => {
             counting::count_shown(looked, tree.domains, shown, counters);
