@@ -60,8 +60,7 @@ fn uncounted(words: State) -> LockState {
 // The number, place and counts of a run, and the first two elements of its trace buffer.
 fn show(rt: &impl Print, r: &RunReply, first: u16, second: u16) -> io::Result<()> {
     let c = r.counts;
-    println!(
-        rt;
+    println!(rt;
         " {} {}: {} {} {} {} {} {}; trace {first} {second}",
         r.number, r.place, c.steps, c.entries, c.stays, c.root, c.passed, c.crossed
     )
@@ -158,7 +157,10 @@ fn step_line(
     let domain = s.places.domains[at];
     let peer = s.places.peers[at];
     let word = s.places.words[at] % 65536;
-    print!(rt; "{label} {} {}; row {row} {domain} {peer} {word}", r.number, r.place)?;
+    print!(rt;
+        "{label} {} {}; row {row} {domain} {peer} {word}",
+        r.number, r.place
+    )?;
     let tail = s.tails[1];
     let next = s.nexts[0];
     let status = s.statuses[0] % 65536;
@@ -179,11 +181,23 @@ fn handed_in(rt: &impl Print) -> io::Result<()> {
     let mut above = first_at(&tree, 6, 1);
     above.statuses[0] = 900;
     above.nexts[0] = 2;
-    step_line(rt, "Check with a status above the threshold", &tree, above, 0)?;
+    step_line(
+        rt,
+        "Check with a status above the threshold",
+        &tree,
+        above,
+        0,
+    )?;
     let mut itself = first_at(&tree, 2, 1);
     itself.tails[1] = 1;
     step_line(rt, "Swap that finds its own record", &tree, itself, 0)?;
-    step_line(rt, "Link to its own record", &tree, first_at(&tree, 3, 1), 0)?;
+    step_line(
+        rt,
+        "Link to its own record",
+        &tree,
+        first_at(&tree, 3, 1),
+        0,
+    )?;
     step_line(rt, "Prep at home", &tree, first_at(&tree, 1, 1), 0)?;
     step_line(rt, "Idle", &tree, fresh(&tree).words, 0)?;
     step_line(rt, "Check at the root", &tree, first_at(&tree, 6, 0), 0)?;
@@ -195,7 +209,13 @@ fn empty_leaf(rt: &impl Print) -> io::Result<()> {
     let mut tree = two_threads(2);
     tree.domains = 3;
     tree.thresholds[2] = 2;
-    step_line(rt, "a leaf without threads", &tree, first_at(&tree, 6, 0), 0)
+    step_line(
+        rt,
+        "a leaf without threads",
+        &tree,
+        first_at(&tree, 6, 0),
+        0,
+    )
 }
 
 fn main(rt: HostRuntime) -> io::Result<()> {

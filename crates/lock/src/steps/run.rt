@@ -108,8 +108,7 @@ fn mark_watching(tree: &TreeWords, words: &State, threads: u32, shown: &mut [boo
 #[inline(always)]
 pub fn fits_its_type(state: LockState)
     ensures { Typed state.words }
-{
-}
+{}
 
 // The steps of a schedule, stored one after another. Also written: how many steps are of each kind, and one number for each step as far as the buffer reaches.
 pub fn run_lent(
@@ -138,7 +137,15 @@ pub fn run_lent(
         let before = places::place_at(&state.words.places, at);
         let looked = counting::looked_at(tree, before.row, &state.words);
         mark_watching(tree, &state.words, looked, &mut shown);
-        let m = rows::step::take(tree, i, before, looked, &mut state.words, &mut shown, &mut state.counters);
+        let m = rows::step::take(
+            tree,
+            i,
+            before,
+            looked,
+            &mut state.words,
+            &mut shown,
+            &mut state.counters,
+        );
         count_in(kinds, m.kind);
         put_place(&mut state.words.places, at, m.place);
         entered = trace_at(trace, entered, m.kind, i);

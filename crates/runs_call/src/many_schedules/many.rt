@@ -40,7 +40,13 @@ fn run_row(tree: &TreeWords, schedule: &[u16], trace: &mut [u16], rows: &mut [u3
             lock::steps::run::run_lent(tree, &mut state, schedule, trace, &mut kinds, &mut codes);
             put_row(rows, at, 0, 0, lock::steps::run::counts_of(&kinds));
         }
-        Err(refusal) => put_row(rows, at, refusal.number(), refusal.place, lock::steps::no_counts()),
+        Err(refusal) => put_row(
+            rows,
+            at,
+            refusal.number(),
+            refusal.place,
+            lock::steps::no_counts(),
+        ),
     }
 }
 
