@@ -49,7 +49,9 @@ pub fn check_steps(
     let mut left = state;
     let mut trace = [0u16; 1024];
     let mut codes = [0u16; 1024];
-    let found = pieces::check_all(tree, &mut left, threads, kinds, domains, &mut trace, &mut codes);
+    let found = pieces::check_all(
+        tree, &mut left, threads, kinds, domains, &mut trace, &mut codes,
+    );
     let (number, place) = match found.refused {
         Some(reason) => (reason.number(), found.steps),
         None => (0, 0),

@@ -29,7 +29,11 @@ fn stretch_of(tree: &TreeWords, state: &LockState, threads: &[u16]) -> Found
             steps: refusal.place as usize,
         },
         Ok(()) => Found {
-            refused: if known < threads.len() { Some(Reason::BadEntry) } else { None },
+            refused: if known < threads.len() {
+                Some(Reason::BadEntry)
+            } else {
+                None
+            },
             steps: known,
         },
     }
@@ -56,7 +60,14 @@ fn check_piece(
     let stretch = stretch_of(tree, state, threads);
     let kept = *state;
     let mut tally = [0u32; 6];
-    run::run_lent(tree, state, &threads[..stretch.steps], trace, &mut tally, codes);
+    run::run_lent(
+        tree,
+        state,
+        &threads[..stretch.steps],
+        trace,
+        &mut tally,
+        codes,
+    );
     match comparison::first_difference(&tree.homes, threads, kinds, domains, codes, stretch.steps) {
         None => stretch,
         Some(same) => {
