@@ -1,5 +1,5 @@
 // Threads compared with the tree, and named steps with what the run's loop reported. A whole list is compared first, without an early exit, so that the compiler can compare many at once; the first that is wrong is searched only if there is one.
-ghost use Rattle.std.specs.Prelude.{◌≡◌, true, cond, ◌/◌, ◌%◌, ◌≤◌, ◌<◌, eqb, length, get_or, IfSome};
+ghost use Rattle.std.specs.Prelude.{◌≡◌, true, cond, ◌/◌, ◌%◌, ◌+◌, ◌≤◌, ◌<◌, eqb, length, IfSome};
 ghost use Rattle.refusals.specs.Lowest.{Lowest, or_end};
 ghost use Rattle.refusals.specs.Reasons.{number_of};
 ghost use Rattle.rows.specs.Common.Standing.{row_domain};
@@ -120,7 +120,7 @@ pub(crate) fn first_difference(
     }
     (0..count).find(
         |k|
-            requires { (k.now < length kinds.now) × ((k.now < length domains.now) × ((k.now < length codes.now) × ((k.now < length threads.now) × (get_or threads.now k.now 0 < 256)))) }
+            requires { Comparable threads.now kinds.now domains.now codes.now (k.now + 1) }
         {
             let home = u16::from(homes[usize::from(threads[*k])]);
             kinds[*k] != codes[*k] % 8 || domains[*k] != domain_by(home, codes[*k])
