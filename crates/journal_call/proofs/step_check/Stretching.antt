@@ -7,7 +7,8 @@ use Prim.Native.Nat.{ℕ, suc, ◌+◌, ◌≤◌, ◌<◌}
 use native.Mathlib.Omega.{arith}
 use lib.ListN.{length, take, get_or}
 use lib.Seq.{length-take-le, get_or-take, take-take}
-use borrow.Author.Tests.{leb-true, leb-false}
+use lib.Dec.{ltb}
+use borrow.Author.Tests.{ltb-true, ltb-false, leb-true, leb-false}
 use Rattle.model.specs.declared.TreeWords.{TreeWords}
 use Rattle.model.specs.declared.LockState.{LockState}
 use Rattle.model.specs.Trees.{Tree, tree_of}
@@ -23,6 +24,7 @@ use Rattle.refusals.specs.declared.reasons.Reason.TheVariants.{BadEntry, Counter
 use Rattle.refusals.specs.declared.reasons.Refusal.{Refusal}
 use Rattle.refusals.specs.Reasons.{number_of}
 use Rattle.std.specs.Prelude.{Option, Some, None, unwrap_or}
+use Rattle.std.specs.Bool.{then_some}
 use Rattle.refusals.specs.Lowest.{Lowest, or_end}
 use Rattle.refusals.proofs.Scanning.{test_hit}
 use Rattle.refusals.proofs.Refusing.{reason_numbered, error_numbered}
@@ -124,27 +126,27 @@ module _ (w : TreeWords) (s : LockState) (is : List ℕ) (g : Ready (tree_of w) 
         let pass = tests_exact.passed.0 (sym z) in
         sym (taken_counter t s is m j (omega arith)) ∙ pass.0 j (omega (arith, long))
 
-    -- 12 stops the stretch
-    pub thread_stops : m < length is → Stretch t s is (record { refused = Some BadEntry; steps = m })
+    -- 12 stops the stretch, or nothing does
+    pub counters_pass : Stretch t s is (record { refused = then_some (ltb m (length is)) BadEntry; steps = m })
     unfolding tree_of
-    thread_stops h =
-        record {
-          within = L.within;
-          known = known;
-          low = low;
-          goes_on = λ z. absurd (reason_numbered BadEntry z);
-          stops = λ _. h;
-          refuses = λ _ k d. number_12 t (after_first t s is m) (get_or is m 0) k d (leb-true w.threads (get_or is m 0) (L.fails h));
-        }
-
-    -- nothing stops it
-    pub nothing_stops : length is ≤ m → Stretch t s is (record { refused = None; steps = m })
-    nothing_stops h =
-        record {
-          within = L.within;
-          known = known;
-          low = low;
-          goes_on = λ _. omega (arith, L.within);
-          stops = λ n. absurd (n refl);
-          refuses = λ n k d. absurd (n refl);
-        }
+    counters_pass = by (ltb m (length is)) refl
+      where
+        by : (b : Bool) → ltb m (length is) ≡ b → Stretch t s is (record { refused = then_some b BadEntry; steps = m })
+        by true e =
+            record {
+              within = L.within;
+              known = known;
+              low = low;
+              goes_on = λ z. absurd (reason_numbered BadEntry z);
+              stops = λ _. ltb-true m (length is) e;
+              refuses = λ _ k d. number_12 t (after_first t s is m) (get_or is m 0) k d (leb-true w.threads (get_or is m 0) (L.fails (ltb-true m (length is) e)));
+            }
+        by false e =
+            record {
+              within = L.within;
+              known = known;
+              low = low;
+              goes_on = λ _. omega (arith, L.within, ltb-false m (length is) e);
+              stops = λ n. absurd (n refl);
+              refuses = λ n k d. absurd (n refl);
+            }

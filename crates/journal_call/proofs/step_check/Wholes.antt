@@ -15,7 +15,7 @@ use Rattle.model.proofs.Trees.Accepted.{sixteen_bit}
 use Rattle.journal.specs.StepCheck.Answers.{Checked, checked}
 use Rattle.journal.proofs.step_check.Checking.{shifted, then_checked, checked_join}
 use Rattle.journal.proofs.step_check.Keeping.{checked_kept, checked_full, checked_few}
-use Rattle.journal_call.specs.StepCheck.Stretches.{Ready, PieceFits}
+use Rattle.journal_call.specs.StepCheck.Stretches.{Ready}
 use Rattle.journal_call.proofs.step_check.Piecing.{Says, says}
 
 -- some steps are checked, and those ahead decide the rest
@@ -27,9 +27,6 @@ pub record SoFar (t : Tree) (s₀ : LockState) (is ks ds : List ℕ) (s : LockSt
 module _ (w : TreeWords) (s₀ : LockState) (is ks ds : List ℕ) (a : length ks ≡ length is) (b : length ds ≡ length is) where
   abbrev t : Tree
   t = tree_of w
-
-  pub none_yet : Ready t s₀ → SoFar t s₀ is ks ds s₀ 0
-  none_yet g = record { ready = g; within = omega arith; ahead = let z : 0 + (checked t s₀ is ks ds).steps ≡ (checked t s₀ is ks ds).steps = omega arith in rw z }
 
   -- no step is left, and none was wrong
   pub ends : (s : LockState) (at : ℕ) → SoFar t s₀ is ks ds s at → length is ≤ at → Says (checked t s₀ is ks ds) 0 at s
@@ -48,16 +45,6 @@ module _ (w : TreeWords) (s₀ : LockState) (is ks ds : List ℕ) (a : length ks
 
     piece_long : (l : List ℕ) → length l ≡ length is → length (piece l) ≡ end - at
     piece_long l e = length-take-le (end - at) (drop at l) (omega (arith, length-drop at l))
-
-    pub piece_fits : (trace codes : List ℕ) → end - at ≤ 1024 → length trace ≡ 1024 → length codes ≡ 1024 → PieceFits (piece is) (piece ks) (piece ds) trace codes
-    piece_fits trace codes few x y =
-        record {
-          few = omega (arith, piece_long is refl);
-          kinds_long = piece_long ks a ∙ sym (piece_long is refl);
-          domains_long = piece_long ds b ∙ sym (piece_long is refl);
-          trace_room = x;
-          codes_room = y;
-        }
 
     split : (l : List ℕ) → drop at l ≡ piece l ++ drop end l
     split l =

@@ -1,5 +1,5 @@
 // Threads compared with the tree, and named steps with what the run's loop reported. A whole list is compared first, without an early exit, so that the compiler can compare many at once; the first that is wrong is searched only if there is one.
-ghost use Rattle.std.specs.Prelude.{◌≡◌, true, cond, ◌/◌, ◌%◌, ◌≤◌, ◌<◌, eqb, length, IfSome};
+ghost use Rattle.std.specs.Prelude.{◌≡◌, true, cond, ◌/◌, ◌%◌, ◌+◌, ◌≤◌, ◌<◌, eqb, length, IfSome};
 ghost use Rattle.refusals.specs.Lowest.{Lowest, or_end};
 ghost use Rattle.refusals.specs.Reasons.{number_of};
 ghost use Rattle.rows.specs.Common.Standing.{row_domain};
@@ -52,8 +52,8 @@ fn homes_of(homes: &[u8; 256], threads: &[u16], count: usize) -> [u16; 1024]
     ensures { HomesOf homes.now threads.now count result }
 {
     let mut found = [0u16; 1024];
-    for k in 0..count {
-        found[k] = u16::from(homes[usize::from(threads[k])]);
+    for (k, thread) in threads[..count].iter().enumerate() {
+        found[k] = u16::from(homes[usize::from(*thread)]);
     }
     found
 }
@@ -118,14 +118,14 @@ pub(crate) fn first_difference(
     if all_same(homes, threads, kinds, domains, codes, count) {
         return None;
     }
-    for k in 0..count {
-        let code = codes[k];
-        let home = u16::from(homes[usize::from(threads[k])]);
-        if kinds[k] != code % 8 || domains[k] != domain_by(home, code) {
-            return Some(k);
-        }
-    }
-    None
+    (0..count).find(
+        |k|
+            requires { Comparable threads.now kinds.now domains.now codes.now (k.now + 1) }
+        {
+            let home = u16::from(homes[usize::from(threads[*k])]);
+            kinds[*k] != codes[*k] % 8 || domains[*k] != domain_by(home, codes[*k])
+        },
+    )
 }
 
 // What refuses a named step, given whether its kind is the step's.

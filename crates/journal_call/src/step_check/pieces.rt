@@ -29,11 +29,7 @@ fn stretch_of(tree: &TreeWords, state: &LockState, threads: &[u16]) -> Found
             steps: refusal.place as usize,
         },
         Ok(()) => Found {
-            refused: if known < threads.len() {
-                Some(Reason::BadEntry)
-            } else {
-                None
-            },
+            refused: (known < threads.len()).then_some(Reason::BadEntry),
             steps: known,
         },
     }

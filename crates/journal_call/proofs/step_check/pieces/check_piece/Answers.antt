@@ -1,7 +1,6 @@
 -- `journal_call::step_check::pieces::check_piece` meets its contract: what can be stepped is stepped and compared; if one step is wrong, those before it are taken again.
 use mathlib.Core.Path.{◌∙◌}
 use native.Mathlib.Omega.{arith}
-use lib.ListN.{length}
 use Rattle.journal_call.proofs.step_check.Piecing.{tests, comparable, stepped, piece_passes, piece_stops}
 use Rattle.journal_call.proofs.step_check.pieces.check_piece.Goals as goal
 

@@ -1,6 +1,6 @@
 -- `journal_call::step_check::pieces::stretch_of` meets its contract: 19 stops it, or an unknown thread, or nothing.
 use mathlib.Core.Path.{refl}
-use Rattle.journal_call.proofs.step_check.Stretching.{known_front, early, counter_stops, thread_stops, nothing_stops}
+use Rattle.journal_call.proofs.step_check.Stretching.{known_front, early, counter_stops, counters_pass}
 use Rattle.journal_call.proofs.step_check.pieces.stretch_of.Goals as goal
 
 pub lent_counter_refusal_of-requires : goal.lent_counter_refusal_of-requires
@@ -9,8 +9,5 @@ lent_counter_refusal_of-requires c = early _ _ _ c.requires.ready c.requires.thr
 pub returns-in-Err : goal.returns-in-Err
 returns-in-Err c = counter_stops _ _ _ c.requires.ready c.requires.threads_len_bound _ (known_front _ _ c.first_unknown.result c.first_unknown.ensures _ c.unwrap_or-known.ensures) c.in-Err.refusal c.in-Err.ensures _ refl
 
-pub returns-then-known-threads : goal.returns-then-known-threads
-returns-then-known-threads c = thread_stops _ _ _ c.requires.ready c.requires.threads_len_bound _ (known_front _ _ c.first_unknown.result c.first_unknown.ensures _ c.unwrap_or-known.ensures) c.in-Ok.ensures c.if-known-threads.true
-
-pub returns-else-known-threads : goal.returns-else-known-threads
-returns-else-known-threads c = nothing_stops _ _ _ c.requires.ready c.requires.threads_len_bound _ (known_front _ _ c.first_unknown.result c.first_unknown.ensures _ c.unwrap_or-known.ensures) c.in-Ok.ensures c.if-known-threads.false
+pub returns-in-Ok : goal.returns-in-Ok
+returns-in-Ok c = rw c.then_some.ensures (counters_pass _ _ _ c.requires.ready c.requires.threads_len_bound _ (known_front _ _ c.first_unknown.result c.first_unknown.ensures _ c.unwrap_or-known.ensures) c.in-Ok.ensures)
