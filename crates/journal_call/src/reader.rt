@@ -1,4 +1,4 @@
-// The reader of a journal, document 02, (xiv): it holds the borrowed bytes and its position in them. The functions that read entries one by one, given the bytes and a position, are here too; `walk_entries` uses one reader for the whole journal.
+// The reader of a journal, document 02, (xiv): it holds the borrowed bytes and its position in them. The functions that read entries one by one, given the bytes and a position, are here too; `check_entries` uses one reader for the whole journal.
 ghost use Rattle.std.specs.Prelude.{◌≡◌, cond, ◌+◌, ◌*◌, ◌≤◌, ◌<◌, eqb, length};
 ghost use Rattle.journal.specs.Reading.{entry_size, entry_thread, entry_kind, entry_of, entry_at};
 ghost use Rattle.journal_call.specs.Reader.Stretches.{position_after, piece_of, ReadOn, StoppedBefore};

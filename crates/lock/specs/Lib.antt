@@ -1,3 +1,3 @@
--- What a step and a run on borrowed arrays report.
+-- What a step and a run report besides state and trace.
 pub mod Lent
 pub mod Steps
