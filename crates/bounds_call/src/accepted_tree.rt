@@ -103,6 +103,7 @@ impl AcceptedTree<'_> {
     {
         let mut n = 1;
         let mut x = d;
+        // Kept: the climb ends at the root, which no range names.
         while x != 0 {
             x = usize::from(self.words.parents[x]);
             n += 1;

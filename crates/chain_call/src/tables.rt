@@ -58,7 +58,7 @@ pub(crate) fn own_record(tree: &TreeWords, i: u16, l: u8) -> u16
     ensures { (result ≡ own_record (tree_of tree.now) i l) × (result < 320) }
 {
     let home = tree.homes[usize::from(i)];
-    refusals::paths::record_at(&tree.parents, tree.domains, i, home, l)
+    refusals::paths::record_at(tree, i, home, l)
 }
 
 // Whether a status sends a thread in Wait Inside.
@@ -147,6 +147,7 @@ fn note_path(ahead: &mut [Count; 320], tree: &TreeWords, nexts: &[u16; 320], j: 
 {
     let mut r = usize::from(j);
     let mut c = tree.homes[usize::from(j)];
+    // Kept: the climb ends at a domain that the tree gives, which no range names.
     while from <= u16::from(c) {
         note_next(ahead, nexts[r], j);
         if c == 0 {

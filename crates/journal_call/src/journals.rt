@@ -15,6 +15,7 @@ use journal::JournalReply;
 use model::{LockState, TreeWords};
 use refusals::reasons::Reason;
 
+// Kept: alike in `step_check::comparison` for 16-bit numbers; a generic contract would speak of a conversion by a bound, in place of a number.
 // Whether all entries name the kinds that the run's loop reported. It looks at all of them, so that the compiler can compare many at once.
 fn all_same_kinds(kinds: &[u8], codes: &[u16], count: usize) -> bool
     requires count_in_bounds { count ≤ length kinds.now }
@@ -144,6 +145,7 @@ pub(crate) fn check_entries(tree: &TreeWords, journal: &[u8]) -> JournalReply
         position: 0,
         before: 0,
     };
+    // Kept: how many pieces a journal has is known only at its end, so no `for` counts them.
     loop {
         match check_piece(
             tree,

@@ -59,6 +59,7 @@ pub fn read_piece(
     let mut at = position;
     let mut last = before;
     let mut wanted: usize = 4;
+    // Kept: each turn moves on by as many entries as it read.
     while count < room {
         let alike = alike::read_alike(journal, at, last, known, threads, kinds, count);
         if count < alike.count {

@@ -14,6 +14,7 @@ pub struct Reader<'a> {
     pub before: u16,
 }
 
+// Kept: the functions below take bytes, position and thread one by one, since they move on entry by entry; a reader would be taken apart and put together at each.
 // Consecutive entries: how many, the position after them, the thread of the last; and why the entry at that position is refused, if it is.
 #[derive(Clone, Copy)]
 pub struct Piece {

@@ -74,6 +74,7 @@ pub struct LockState {
 }
 
 // A thread's place as in the step table; Invalid if the four numbers are no place.
+// Kept: Invalid and no Option, since the definition `place_of` and the theorems about places name it.
 #[derive(Clone, Copy)]
 pub enum Place {
     Idle,

@@ -21,14 +21,6 @@ tree_in n m ps ts hs = tree_of (words_in n m ps ts hs)
 abbrev pub parents_in : (domains : ℕ) → (parents : List ℕ) → Tree
 parents_in n ps = tree_in n 0 ps [] []
 
--- places with these arrays
-abbrev pub places_in : (rows domains peers words : List ℕ) → PlaceArrays
-places_in rs ds ps ws = record { rows = rs; domains = ds; peers = ps; words = ws }
-
--- the words of a lock with these borrowed arrays
-abbrev pub lent_state : (tails nexts statuses rows domains peers words : List ℕ) → (ticket grant : ℕ) → State
-lent_state ts ns vs rs ds ps ws v g = record { tails = ts; nexts = ns; statuses = vs; places = places_in rs ds ps ws; ticket = v; grant = g }
-
 -- the parent of each domain except the root has a lower number
 pub record Lower (domains : ℕ) (parents : List ℕ) : Type 0 where
   pub lower : (d : ℕ) → 0 < d → d < domains → get_or parents d 0 < d

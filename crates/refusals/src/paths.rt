@@ -4,46 +4,46 @@ ghost use Rattle.model.specs.Search.{search_from};
 ghost use Rattle.refusals.specs.Arrays.{parents_in, Lower};
 ghost use Rattle.refusals.specs.Paths.Records.{own_record_in};
 
-use model::Found;
+use model::{Found, TreeWords};
 
 // The search for a domain's child on the path from a home up, level by level: it stops as soon as it has the child, and reports how many domains it looked at.
-pub fn search_at(parents: &[u8; 64], domains: u32, home: u8, l: u8) -> Found
-    requires domains_bound { domains ≤ 64 }
-    requires lower { Lower domains parents.now }
-    requires home_lt_domains { home < domains }
-    ensures value { result ≡ search_from 6 (parents_in domains parents.now) l home 0 }
+pub fn search_at(tree: &TreeWords, home: u8, l: u8) -> Found
+    requires domains_bound { tree.now.domains ≤ 64 }
+    requires lower { Lower tree.now.domains tree.now.parents }
+    requires home_lt_domains { home < tree.now.domains }
+    ensures value { result ≡ search_from 6 (parents_in tree.now.domains tree.now.parents) l home 0 }
     ensures child_bound { result.child < 64 }
 {
     let mut c = home;
-    let mut looked: u32 = 0;
-    let child = loop {
-        if looked == 6 {
-            break c;
-        }
-        looked += 1;
+    for looked in 0..6 {
+        let found = Found {
+            child: c,
+            looked: looked + 1,
+        };
         if c == 0 {
-            break c;
+            return found;
         }
-        let at = c as usize;
-        let p = parents[at];
-        if p == l {
-            break c;
+        let parent = tree.parents[c as usize];
+        if parent == l {
+            return found;
         }
-        c = p;
-    };
-    Found { child, looked }
+        c = parent;
+    }
+    Found {
+        child: c,
+        looked: 6,
+    }
 }
 
 // The record that a thread uses at a domain: its own at home, that of the domain's child above.
-pub fn record_at(parents: &[u8; 64], domains: u32, i: u16, home: u8, l: u8) -> u16
-    requires domains_bound { (domains ≤ 64) × (i < 256) }
-    requires lower { Lower domains parents.now }
-    requires home_lt_domains { home < domains }
-    ensures { (result ≡ own_record_in (parents_in domains parents.now) i home l) × (result < 320) }
+pub fn record_at(tree: &TreeWords, i: u16, home: u8, l: u8) -> u16
+    requires domains_bound { (tree.now.domains ≤ 64) × (i < 256) }
+    requires lower { Lower tree.now.domains tree.now.parents }
+    requires home_lt_domains { home < tree.now.domains }
+    ensures { (result ≡ own_record_in (parents_in tree.now.domains tree.now.parents) i home l) × (result < 320) }
 {
     if l == home {
         return i;
     }
-    let found = search_at(parents, domains, home, l);
-    256 + found.child as u16
+    256 + u16::from(search_at(tree, home, l).child)
 }

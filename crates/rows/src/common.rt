@@ -28,7 +28,7 @@ pub fn taken_at(tree: &TreeWords, home: u8, l: u8) -> u8
     if l == home {
         return 0;
     }
-    refusals::paths::search_at(&tree.parents, tree.domains, home, l).child
+    refusals::paths::search_at(tree, home, l).child
 }
 
 // A thread as a member of a domain: with its own record at home, with that of the domain's child above.

@@ -58,6 +58,7 @@ fn read_list(
     ensures { ListRead text.now start tree.old domain left result tree.new }
 {
     let mut at = start;
+    // Kept: how many domains a list has is known only at its closing parenthesis.
     loop {
         let number = next_number(tree.domains);
         let inside = begin_domain(text, at, tree, domain)?;

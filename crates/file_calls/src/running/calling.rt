@@ -21,7 +21,7 @@ pub(crate) fn refused_by(number: u32, place: u32) -> FileReply
     }
 }
 
-// Kept: `lock::run_lock` answers with a number, so a refused run is no Refusal here.
+// Kept: the definition `run_outcome` takes a run's reply, which has a number, so the reply is passed on.
 // The answer of the file call, given the reply of the run.
 fn answer_run(reply: &RunReply, trace: &[u16], output: &mut [u8]) -> FileReply
     requires entries_in_bounds { reply.now.counts.entries ≤ length trace.now }

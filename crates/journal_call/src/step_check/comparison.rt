@@ -31,6 +31,7 @@ pub(crate) fn first_unknown(threads: &[u16], known: u32) -> Option<usize>
         .position(|thread| known <= u32::from(*thread))
 }
 
+// Kept: alike in `journals` for bytes, as said there.
 // Whether all named kinds are those that were reported.
 fn all_same_kinds(kinds: &[u16], codes: &[u16], count: usize) -> bool
     requires count_in_bounds { count ≤ length kinds.now }
@@ -69,6 +70,7 @@ fn domain_by(home: u16, code: u16) -> u16
     }
 }
 
+// Kept: an index for three slices; with a `zip` of the three the invariant stayed unproved.
 // Whether all named domains are those of the steps, given the homes of their threads.
 fn all_same_domains(homes: &[u16; 1024], domains: &[u16], codes: &[u16], count: usize) -> bool
     requires count_bound { count ≤ 1024 }

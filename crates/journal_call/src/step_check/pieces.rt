@@ -98,6 +98,7 @@ pub(crate) fn check_all(
     ensures state_after { state.new ≡ (checked (tree_of tree.now) state.old threads.now kinds.now domains.now).state }
 {
     let mut at = 0;
+    // Kept: three lists are cut at the same places, each piece where the one before it ended.
     while at < threads.len() {
         let end = at + (threads.len() - at).min(1024);
         let found = check_piece(

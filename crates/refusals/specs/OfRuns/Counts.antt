@@ -1,11 +1,6 @@
--- The counters of a state, given by their arrays. proofs/ shows that their test is the model's.
-use Rattle.std.specs.Prelude.{Bool, ◌&&◌, not, cond, List, ℕ, eqb, ltb, leb}
-use Rattle.model.specs.declared.Counters.{Counters}
+-- The counters of a domain. proofs/ shows that their test is the model's.
+use Rattle.std.specs.Prelude.{Bool, ◌&&◌, not, cond, ℕ, eqb, ltb, leb}
 use Rattle.model.specs.Counters.{most_counted}
-
--- counters with these arrays
-abbrev pub counters_in : (entries tenures longest : List ℕ) → Counters
-counters_in es ns ls = record { entries = es; tenures = ns; longest = ls }
 
 -- three counters are 0
 abbrev pub zeros_in : (entries tenures longest : ℕ) → Bool

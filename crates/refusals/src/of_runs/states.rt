@@ -112,7 +112,7 @@ impl Thread<'_> {
         ensures { result ≡ leb (get_or statuses.now (own_record_in (tree_of self.now.tree.now) self.now.number self.now.home 0) 0) 65535 }
     {
         let tree = self.tree;
-        let r = crate::paths::record_at(&tree.parents, tree.domains, self.number, self.home, 0);
+        let r = crate::paths::record_at(tree, self.number, self.home, 0);
         statuses[usize::from(r)] <= 65535
     }
 

@@ -243,6 +243,7 @@ pub(crate) fn run_counted(
     let mut counts = [0u32; 6];
     let mut entered: u64 = FIRST;
     let mut from: usize = 0;
+    // Kept: a piece starts where the one before it ended, and its trace after the entries so far.
     while from < schedule.len() {
         let end = piece_end(from, schedule.len());
         let mut codes = [0u16; 1024];

@@ -10,4 +10,4 @@ pub returns-then-l-home : goal.returns-then-l-home
 returns-then-l-home c = (rw (eq-eqb _ _ c.if-l-home.true), omega arith)
 
 pub returns : goal.returns
-returns c = (rw (ap (λ (r : Found). r.child) c.search_at-found.ensures.value ∙ same_child_from 6 _ _ _ 0, ne_eqb _ _ c.if-l-home.false), omega (arith, c.search_at-found.ensures.child_bound))
+returns c = (rw (c.from.ensures, ap (λ (r : Found). r.child) c.search_at.ensures.value ∙ same_child_from 6 _ _ _ 0, ne_eqb _ _ c.if-l-home.false), omega (arith, c.search_at.ensures.child_bound))
