@@ -16,6 +16,7 @@ use model::{Counters, Place, PlaceWords, State, TreeWords};
 pub fn prep(w: Member, words: &mut State) -> Moved
     requires { Within w }
     ensures row_done { RowDone (λ t i s. Stands t i w) (λ t i s. prep_row t i w.domain s) result words.old words.new }
+    ensures others_kept { (words.new.tails ≡ words.old.tails) × ((words.new.ticket ≡ words.old.ticket) × (words.new.grant ≡ words.old.grant)) }
     ensures kind_value { is_entry_number (number_of_kind result.kind) ≡ false }
 {
     let l = w.domain;
@@ -30,6 +31,7 @@ pub fn swap(tree: &TreeWords, w: Member, words: &mut State, counters: &mut Count
     requires home_lt_domains { (w.home < tree.now.domains) × Within w }
     requires room_above { RoomAbove counters.old.entries × RoomAbove counters.old.tenures }
     ensures row_done { RowDone (λ t i s. Stands t i w × Above t tree.now.ticket_root w.domain (slice_index tree.now.parents w.domain)) (λ t i s. swap_row t i w.domain s) result words.old words.new }
+    ensures others_kept { (words.new.nexts ≡ words.old.nexts) × ((words.new.ticket ≡ words.old.ticket) × (words.new.grant ≡ words.old.grant)) }
     ensures entered { Entered (parent_in tree.now.domains tree.now.parents) (number_of_kind result.kind) w.home counters.old.entries counters.new.entries }
     ensures started { Started (if nat_eq result.place.row 3 then 0 else record_domain_in w.own) counters.old counters.new }
 {
@@ -57,6 +59,7 @@ pub fn link(w: Member, before: u16, words: &mut State) -> Moved
     requires within { Within w }
     requires before_bound { before < 320 }
     ensures row_done { RowDone (λ t i s. Stands t i w) (λ t i s. link_row t i w.domain before s) result words.old words.new }
+    ensures others_kept { (words.new.tails ≡ words.old.tails) × ((words.new.statuses ≡ words.old.statuses) × ((words.new.ticket ≡ words.old.ticket) × (words.new.grant ≡ words.old.grant))) }
     ensures kind_value { is_entry_number (number_of_kind result.kind) ≡ false }
 {
     words.nexts[before as usize] = w.own + 1;
@@ -74,6 +77,7 @@ pub fn wait(
     requires home_lt_domains { (w.home < tree.now.domains) × Within w }
     requires room_above { RoomAbove entries.old }
     ensures row_done { RowDone (λ t i s. Stands t i w × (Above t tree.now.ticket_root w.domain (slice_index tree.now.parents w.domain) × place ≡ place_at s i)) (λ t i s. wait_row t i w.domain s) result words.old words.new }
+    ensures others_kept { (words.new.tails ≡ words.old.tails) × ((words.new.nexts ≡ words.old.nexts) × ((words.new.ticket ≡ words.old.ticket) × (words.new.grant ≡ words.old.grant))) }
     ensures entered { Entered (parent_in tree.now.domains tree.now.parents) (number_of_kind result.kind) w.home entries.old entries.new }
 {
     let l = w.domain;
@@ -107,6 +111,7 @@ pub fn draw(tree: &TreeWords, w: Member, words: &mut State, counters: &mut Count
     requires home_lt_domains { (w.home < tree.now.domains) × (Within w × (w.domain ≡ 0)) }
     requires room_above { RoomAbove counters.old.entries × RoomAbove counters.old.tenures }
     ensures row_done { RowDone (λ t i s. Stands t i w) draw_row result words.old words.new }
+    ensures others_kept { (words.new.tails ≡ words.old.tails) × ((words.new.nexts ≡ words.old.nexts) × (words.new.grant ≡ words.old.grant)) }
     ensures entered { Entered (parent_in tree.now.domains tree.now.parents) (number_of_kind result.kind) w.home counters.old.entries counters.new.entries }
     ensures started { Started (if nat_eq (number_of_kind result.kind) 1 then 0 else record_domain_in w.own) counters.old counters.new }
 {
@@ -148,6 +153,7 @@ pub fn start(tree: &TreeWords, w: Member, words: &mut State, counters: &mut Coun
     requires home_lt_domains { (w.home < tree.now.domains) × (Within w × (w.own < 256)) }
     requires room_above { RoomAbove counters.old.entries × RoomAbove counters.old.tenures }
     ensures row_done { RowDone (λ t i s. Stands t i w × RootIs t tree.now.ticket_root) (λ t i s. start_row t i w.domain s) result words.old words.new }
+    ensures others_kept { (words.new.tails ≡ words.old.tails) × (words.new.grant ≡ words.old.grant) }
     ensures entered { Entered (parent_in tree.now.domains tree.now.parents) (number_of_kind result.kind) w.home counters.old.entries counters.new.entries }
     ensures started { Started 0 counters.old counters.new }
 {

@@ -57,6 +57,7 @@ pub fn help(w: Member, n: u16) -> Moved
 pub fn cas(w: Member, words: &mut State) -> Moved
     requires { Within w }
     ensures row_done { RowDone (λ t i s. Stands t i w) (λ t i s. cas_row t i w.domain s) result words.old words.new }
+    ensures others_kept { (words.new.nexts ≡ words.old.nexts) × ((words.new.statuses ≡ words.old.statuses) × ((words.new.ticket ≡ words.old.ticket) × (words.new.grant ≡ words.old.grant))) }
     ensures kind_value { is_entry_number (number_of_kind result.kind) ≡ false }
 {
     let l = w.domain;
@@ -84,6 +85,7 @@ pub fn grant(w: Member, to: u16, word: u64, words: &mut State, counters: &mut Co
     requires to_bound { to < 320 }
     requires room_above { RoomAbove counters.old.tenures }
     ensures row_done { RowDone (λ t i s. Stands t i w) (λ t i s. grant_row t i w.domain to word s) result words.old words.new }
+    ensures others_kept { (words.new.tails ≡ words.old.tails) × ((words.new.nexts ≡ words.old.nexts) × ((words.new.ticket ≡ words.old.ticket) × (words.new.grant ≡ words.old.grant))) }
     ensures kind_value { is_entry_number (number_of_kind result.kind) ≡ false }
     ensures started { Started (record_domain_in to) counters.old counters.new }
     ensures entries_kept { counters.new.entries ≡ counters.old.entries }
@@ -99,6 +101,7 @@ pub fn grant(w: Member, to: u16, word: u64, words: &mut State, counters: &mut Co
 pub fn raise(w: Member, words: &mut State) -> Moved
     requires { w.domain ≡ 0 }
     ensures row_done { RowDone (λ t i s. Stands t i w) raise_row result words.old words.new }
+    ensures others_kept { (words.new.tails ≡ words.old.tails) × ((words.new.nexts ≡ words.old.nexts) × ((words.new.statuses ≡ words.old.statuses) × (words.new.ticket ≡ words.old.ticket))) }
     ensures kind_value { is_entry_number (number_of_kind result.kind) ≡ false }
 {
     words.grant = counting::next_number(words.grant);

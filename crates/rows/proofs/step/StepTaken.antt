@@ -2,6 +2,7 @@
 use Rattle.std.proofs.Common.{◌≡◌, ℕ, ◌+◌, ◌%◌, ◌<◌, ◌≤◌, Bool, true, false, cond, not, eqb, ltb, ◌≢◌, List, get_or, sym, refl, ap, ◌∙◌, arith, le-ltb, lt-ltb, eqb-true}
 use mathlib.Core.Bool.{false≢true}
 use borrow.Author.Tests.{eqb-false, not-true}
+use Rattle.model.specs.declared.PlaceArrays.{PlaceArrays}
 use Rattle.model.specs.declared.PlaceWords.{PlaceWords}
 use Rattle.model.specs.declared.Place.{Place}
 use Rattle.model.specs.declared.Place.TheVariants.{Idle, Prep, Swap, Link, Wait, Inside, Check, Help, Cas, Linger, Grant, Draw, Watch, Raise, Invalid}
@@ -9,6 +10,7 @@ use Rattle.model.specs.declared.State.{State}
 use Rattle.model.specs.declared.Counters.{Counters}
 use Rattle.model.specs.declared.TreeWords.{TreeWords}
 use Rattle.model.specs.Places.{words_of, place_of, place_domain}
+use Rattle.model.specs.States.{numbers_at}
 use Rattle.model.specs.Trees.{Tree, tree_of, on_path, is_member, child, child_from, own_record}
 use Rattle.model.specs.Steps.{RowResult, stays, prep_row, swap_row, link_row, wait_row, leave_row, check_row, help_row, cas_row, linger_row, grant_row, draw_row, watch_row, raise_row, row}
 use Rattle.model.specs.WellFormed.{queue_on_path, good_place}
@@ -26,7 +28,7 @@ use Rattle.rows.specs.declared.common.Member.{Member}
 use Rattle.rows.specs.declared.common.rows.Moved.{Moved}
 use Rattle.rows.specs.Common.Counting.{taken_in, record_domain_in, Started}
 use Rattle.rows.specs.Step.Counting.{started_in, ShownLeft, CountedStep}
-use Rattle.rows.specs.Common.Rows.{place_at, Done, Stands, Above}
+use Rattle.rows.specs.Common.Rows.{with_places, Done, Stands, Above}
 use Rattle.rows.specs.Acquire.Rows.{start_row}
 use Rattle.rows.specs.Common.Standing.{LeadsUp, MemberOf, row_domain}
 use Rattle.rows.specs.Step.OneStep.{Ready, StepDone}
@@ -263,14 +265,14 @@ module _ {tree : TreeWords} {i : ℕ} {q : PlaceWords} {p : Place} {l : ℕ} {w 
 
   pub taken :
       (x : Place) (said : Moved) (old new : State) → p ≡ x → new.places ≡ old.places →
-      (place_at old i ≡ q → Done (row_at named i w.domain x old) i said new) → StepDone named i q said old new
+      ((ps : PlaceArrays) → numbers_at ps i ≡ q → Done (row_at named i w.domain x (with_places ps old)) i said (with_places ps new)) → StepDone named i q said old new
   taken x said old new e kept f =
       record {
         places_kept = kept;
-        does = λ here.
+        does = λ ps here.
             let now : place_of q ≡ x = sym F.place_is ∙ e in
             let there : w.domain ≡ place_domain (named.home i) x = F.member.domain_is ∙ at_domain x e ∙ ap (λ h. place_domain h x) (sym home_same) in
-            rw (now, ← row_same named i x old, ← there) (f here);
+            rw (now, ← row_same named i x (with_places ps old), ← there) (f ps here);
       }
 
   pub inner : (c : ℕ) → p ≡ Check c → w.domain ≢ 0

@@ -1,5 +1,6 @@
 -- A row of the step table: the words that it leaves, and what it reports about its step.
 use Rattle.std.specs.Prelude.{◌≡◌, ℕ, not, ◌≢◌, ◌==◌}
+use Rattle.model.specs.declared.PlaceArrays.{PlaceArrays}
 use Rattle.model.specs.declared.PlaceWords.{PlaceWords}
 use Rattle.model.specs.declared.State.{State}
 use Rattle.model.specs.Trees.{Tree, child, own_record}
@@ -18,6 +19,10 @@ moved k q = record { kind = k; place = q }
 abbrev pub with_place_words : (thread : ℕ) → PlaceWords → State → State
 with_place_words i q s = record { tails = s.tails; nexts = s.nexts; statuses = s.statuses; places = store_numbers s.places i q; ticket = s.ticket; grant = s.grant }
 
+-- the state with other places
+abbrev pub with_places : PlaceArrays → State → State
+with_places ps s = record { tails = s.tails; nexts = s.nexts; statuses = s.statuses; places = ps; ticket = s.ticket; grant = s.grant }
+
 -- the numbers of a thread's place
 abbrev pub place_at : State → (thread : ℕ) → PlaceWords
 place_at s i = numbers_at s.places i
@@ -27,10 +32,10 @@ pub record Done (x : RowResult) (i : ℕ) (m : Moved) (left : State) : Type 0 wh
   pub kind_is : number_of_kind m.kind ≡ kind_number x.kind
   pub state_left : with_place_words i m.place left ≡ x.state
 
--- no place is written, and in every tree in which the row's inputs are what it reads, the row is done
+-- no place is written, and wherever the threads are, in every tree in which the row's inputs are what it reads, the row is done
 pub record RowDone (Given : Tree → (thread : ℕ) → State → Type 0) (row : Tree → (thread : ℕ) → State → RowResult) (m : Moved) (old new : State) : Type 0 where
   pub places_kept : new.places ≡ old.places
-  pub does : (t : Tree) (i : ℕ) → Given t i old → Done (row t i old) i m new
+  pub does : (t : Tree) (i : ℕ) (ps : PlaceArrays) → Given t i (with_places ps old) → Done (row t i (with_places ps old)) i m (with_places ps new)
 
 -- thread i is this member of the domain. At its home the child is not read
 pub record Stands (t : Tree) (i : ℕ) (w : Member) : Type 0 where

@@ -6,8 +6,8 @@ use Rattle.rows.proofs.acquire.draw.Goals as goal
 
 pub returns-then-v-words-clause-row_done : goal.returns-then-v-words-clause-row_done
 unfolding draw_row
-returns-then-v-words-clause-row_done c = record { places_kept = refl; does = λ t i S. rw (c.to.ensures, root_own t i _ S c.requires.home_lt_domains.1.1, ne_eqb _ _ c.if-v-words.true, c.next_number-words.ensures, c.from.ensures) (record { kind_is = refl; state_left = refl }) }
+returns-then-v-words-clause-row_done c = record { places_kept = refl; does = λ t i ps S. rw (c.to.ensures, root_own t i _ S c.requires.home_lt_domains.1.1, ne_eqb _ _ c.if-v-words.true, c.next_number-words.ensures, c.from.ensures) (record { kind_is = refl; state_left = refl }) }
 
 pub returns-clause-row_done : goal.returns-clause-row_done
 unfolding draw_row
-returns-clause-row_done c = record { places_kept = refl; does = λ t i S. rw (c.to-2.ensures, root_own t i _ S c.requires.home_lt_domains.1.1, eq-eqb _ _ c.if-v-words.false, c.next_number-words.ensures, c.from.ensures) (record { kind_is = refl; state_left = refl }) }
+returns-clause-row_done c = record { places_kept = refl; does = λ t i ps S. rw (c.to-2.ensures, root_own t i _ S c.requires.home_lt_domains.1.1, eq-eqb _ _ c.if-v-words.false, c.next_number-words.ensures, c.from.ensures) (record { kind_is = refl; state_left = refl }) }

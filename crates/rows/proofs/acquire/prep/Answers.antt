@@ -16,4 +16,4 @@ chosen t i l s = by (eqb l 0)
     by false = refl
 
 pub returns-clause-row_done : goal.returns-clause-row_done
-returns-clause-row_done c = record { places_kept = refl; does = λ t i S. rw (chosen t i _ _, c.to.ensures, c.root_word_at.ensures, ← S.own_is) (record { kind_is = refl; state_left = refl }) }
+returns-clause-row_done c = record { places_kept = refl; does = λ t i ps S. rw (chosen t i _ _, c.to.ensures, c.root_word_at.ensures, ← S.own_is) (record { kind_is = refl; state_left = refl }) }

@@ -12,7 +12,7 @@ returns-then-h-v-clause-row_done c =
     let fits : get_or c.args.tree.now.thresholds c.args.w.domain 0 < 65536 = search rules in
     record {
       places_kept = refl;
-      does = λ t i S.
+      does = λ t i ps S.
           elim c.then-h-v.branch [
             | then-h-v-via-then-h-v w ↦
                 rw (c.to.ensures, c.release_place_at-next.ensures, release_is t _ S.above.root_is _, ← S.stands.own_is, ← S.threshold_is, mod-eq_of_lt fits, ← c.from-h.ensures, le-ltb _ _ w.if-h-v.true, ← S.above.parent_is S.inner) (record { kind_is = refl; state_left = refl })
@@ -27,5 +27,5 @@ returns-clause-row_done c =
     let fits : get_or c.args.tree.now.thresholds c.args.w.domain 0 < 65536 = search rules in
     record {
       places_kept = refl;
-      does = λ t i S. rw (c.to-2.ensures, ← S.stands.own_is, ← S.threshold_is, mod-eq_of_lt fits, ← c.from-h.ensures, lt-ltb _ _ c.if-h-v.false, ne_eqb _ _ c.if-n-eq0.false) (record { kind_is = refl; state_left = refl });
+      does = λ t i ps S. rw (c.to-2.ensures, ← S.stands.own_is, ← S.threshold_is, mod-eq_of_lt fits, ← c.from-h.ensures, lt-ltb _ _ c.if-h-v.false, ne_eqb _ _ c.if-n-eq0.false) (record { kind_is = refl; state_left = refl });
     }

@@ -6,4 +6,4 @@ use Rattle.rows.proofs.release.leave.Goals as goal
 
 pub returns-clause-row_done : goal.returns-clause-row_done
 unfolding leave_row
-returns-clause-row_done c s = record { places_kept = refl; does = λ t i S. rw (c.to.ensures, c.release_place_at.ensures, release_is t _ S.1 _, ← S.0) (record { kind_is = refl; state_left = refl }) }
+returns-clause-row_done c s = record { places_kept = refl; does = λ t i ps S. rw (c.to.ensures, c.release_place_at.ensures, release_is t _ S.1 _, ← S.0) (record { kind_is = refl; state_left = refl }) }

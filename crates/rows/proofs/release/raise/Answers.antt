@@ -6,4 +6,4 @@ use Rattle.rows.proofs.release.raise.Goals as goal
 
 pub returns-clause-row_done : goal.returns-clause-row_done
 unfolding raise_row
-returns-clause-row_done c = record { places_kept = refl; does = λ t i S. rw (c.to.ensures, c.done_place_at.ensures, root_done t i _ S c.requires, c.next_number-words.ensures) (record { kind_is = refl; state_left = refl }) }
+returns-clause-row_done c = record { places_kept = refl; does = λ t i ps S. rw (c.to.ensures, c.done_place_at.ensures, root_done t i _ S c.requires, c.next_number-words.ensures) (record { kind_is = refl; state_left = refl }) }

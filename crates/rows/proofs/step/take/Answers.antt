@@ -57,7 +57,7 @@ unfolding started_in
 returns-in-Idle c = let F = found (turn_of _ _ _ c.requires.ready) c.place_by_row-p.ensures c.domain_by_row-l.ensures c.member_at-w.ensures in
     let same = c.in-Idle.is in let done = c.start.ensures.row_done in
     record {
-      fact = taken F Idle _ _ _ same done.places_kept (λ here. done.does _ _ (stands F, (above F).root_is));
+      fact = taken F Idle _ _ _ same done.places_kept (λ ps here. done.does _ _ ps (stands F, (above F).root_is));
       entered = rw F.member.home_is at c.start.ensures.entered;
       counted_step = counted F Idle same refl refl _ _ _ _ _ 0 refl c.start.ensures.started;
       shown_left = shown_kept F Idle same refl _;
@@ -68,7 +68,7 @@ unfolding started_in
 returns-in-Prep c = let F = found (turn_of _ _ _ c.requires.ready) c.place_by_row-p.ensures c.domain_by_row-l.ensures c.member_at-w.ensures in
     let same = c.in-Prep.is in let done = c.prep.ensures.row_done in
     record {
-      fact = taken F (Prep _) _ _ _ same done.places_kept (λ here. done.does _ _ (stands F));
+      fact = taken F (Prep _) _ _ _ same done.places_kept (λ ps here. done.does _ _ ps (stands F));
       entered = not_entered _ _ _ _ c.prep.ensures.kind_value;
       counted_step = counted F (Prep _) same refl refl _ _ _ _ _ 0 refl (record { added = refl; raised = refl });
       shown_left = shown_kept F (Prep _) same refl _;
@@ -79,7 +79,7 @@ unfolding started_in
 returns-in-Swap c = let F = found (turn_of _ _ _ c.requires.ready) c.place_by_row-p.ensures c.domain_by_row-l.ensures c.member_at-w.ensures in
     let same = c.in-Swap.is in let done = c.swap.ensures.row_done in
     record {
-      fact = taken F (Swap _) _ _ _ same done.places_kept (λ here. done.does _ _ (stands F, above F));
+      fact = taken F (Swap _) _ _ _ same done.places_kept (λ ps here. done.does _ _ ps (stands F, above F));
       entered = rw F.member.home_is at c.swap.ensures.entered;
       counted_step = counted F (Swap _) same refl refl _ _ _ _ _ _ (ap (cond (eqb c.swap.result.place.row 3) 0) (own_taken F ∙ ap (taken_in _ _ _) (at_domain F (Swap _) same))) c.swap.ensures.started;
       shown_left = shown_kept F (Swap _) same refl _;
@@ -90,7 +90,7 @@ unfolding started_in
 returns-in-Link c = let F = found (turn_of _ _ _ c.requires.ready) c.place_by_row-p.ensures c.domain_by_row-l.ensures c.member_at-w.ensures in
     let same = c.in-Link.is in let done = c.link.ensures.row_done in
     record {
-      fact = taken F (Link _ _) _ _ _ same done.places_kept (λ here. done.does _ _ (stands F));
+      fact = taken F (Link _ _) _ _ _ same done.places_kept (λ ps here. done.does _ _ ps (stands F));
       entered = not_entered _ _ _ _ c.link.ensures.kind_value;
       counted_step = counted F (Link _ _) same refl refl _ _ _ _ _ 0 refl (record { added = refl; raised = refl });
       shown_left = shown_kept F (Link _ _) same refl _;
@@ -101,7 +101,7 @@ unfolding started_in
 returns-in-Wait c = let F = found (turn_of _ _ _ c.requires.ready) c.place_by_row-p.ensures c.domain_by_row-l.ensures c.member_at-w.ensures in
     let same = c.in-Wait.is in let done = c.wait.ensures.row_done in
     record {
-      fact = taken F (Wait _) _ _ _ same done.places_kept (λ here. done.does _ _ (stands F, (above F, sym here)));
+      fact = taken F (Wait _) _ _ _ same done.places_kept (λ ps here. done.does _ _ ps (stands F, (above F, sym here)));
       entered = rw F.member.home_is at c.wait.ensures.entered;
       counted_step = counted F (Wait _) same refl refl _ _ _ _ _ 0 refl (record { added = refl; raised = refl });
       shown_left = shown_kept F (Wait _) same refl _;
@@ -112,7 +112,7 @@ unfolding started_in
 returns-in-Inside c = let F = found (turn_of _ _ _ c.requires.ready) c.place_by_row-p.ensures c.domain_by_row-l.ensures c.member_at-w.ensures in
     let same = c.in-Inside.is in let done = c.leave.ensures.row_done _ in
     record {
-      fact = taken F Inside _ _ _ same done.places_kept (λ here. done.does _ _ (sym (home_same F), (above F).root_is));
+      fact = taken F Inside _ _ _ same done.places_kept (λ ps here. done.does _ _ ps (sym (home_same F), (above F).root_is));
       entered = not_entered _ _ _ _ c.leave.ensures.kind_value;
       counted_step = counted F Inside same refl refl _ _ _ _ _ 0 refl (record { added = refl; raised = refl });
       shown_left = shown_kept F Inside same refl _;
@@ -124,7 +124,7 @@ returns-in-Check c = let F = found (turn_of _ _ _ c.requires.ready) c.place_by_r
     let there = F.member.domain_is ∙ at_domain F _ same ∙ sym (ap (λ (y : PlaceWords). y.domain) (words_are F _ same)) in
     let done = c.check.ensures.row_done in
     record {
-      fact = taken F (Check _) _ _ _ same done.places_kept (λ here. done.does _ _ (record { stands = stands F; inner = i; above = above F; threshold_is = threshold_is F i }));
+      fact = taken F (Check _) _ _ _ same done.places_kept (λ ps here. done.does _ _ ps (record { stands = stands F; inner = i; above = above F; threshold_is = threshold_is F i }));
       entered = not_entered _ _ _ _ c.check.ensures.kind_value;
       counted_step = check_counted _ _ _ _ _ _ _ _ _ (row_of F _ same) _ (ap (λ d. cond (eqb c.check.result.place.row 10) d 0) there) refl c.check.ensures.longest_after;
       shown_left = shown_kept F (Check _) same refl _;
@@ -135,7 +135,7 @@ unfolding started_in
 returns-in-Help c = let F = found (turn_of _ _ _ c.requires.ready) c.place_by_row-p.ensures c.domain_by_row-l.ensures c.member_at-w.ensures in
     let same = c.in-Help.is in let done = c.help.ensures.row_done c.args.words.now in
     record {
-      fact = taken F (Help _) _ _ _ same done.places_kept (λ here. done.does _ _ (stands F, refl));
+      fact = taken F (Help _) _ _ _ same done.places_kept (λ ps here. done.does _ _ ps (stands F, refl));
       entered = not_entered _ _ _ _ c.help.ensures.kind_value;
       counted_step = counted F (Help _) same refl refl _ _ _ _ _ 0 refl (record { added = refl; raised = refl });
       shown_left = shown_kept F (Help _) same refl _;
@@ -146,7 +146,7 @@ unfolding started_in
 returns-in-Cas c = let F = found (turn_of _ _ _ c.requires.ready) c.place_by_row-p.ensures c.domain_by_row-l.ensures c.member_at-w.ensures in
     let same = c.in-Cas.is in let done = c.cas.ensures.row_done in
     record {
-      fact = taken F (Cas _) _ _ _ same done.places_kept (λ here. done.does _ _ (stands F));
+      fact = taken F (Cas _) _ _ _ same done.places_kept (λ ps here. done.does _ _ ps (stands F));
       entered = not_entered _ _ _ _ c.cas.ensures.kind_value;
       counted_step = counted F (Cas _) same refl refl _ _ _ _ _ 0 refl (record { added = refl; raised = refl });
       shown_left = shown_kept F (Cas _) same refl _;
@@ -157,7 +157,7 @@ unfolding started_in
 returns-in-Linger c = let F = found (turn_of _ _ _ c.requires.ready) c.place_by_row-p.ensures c.domain_by_row-l.ensures c.member_at-w.ensures in
     let same = c.in-Linger.is in let done = c.linger.ensures.row_done c.args.words.now in
     record {
-      fact = taken F (Linger _) _ _ _ same done.places_kept (λ here. done.does _ _ (stands F, (refl, sym here)));
+      fact = taken F (Linger _) _ _ _ same done.places_kept (λ ps here. done.does _ _ ps (stands F, (refl, sym here)));
       entered = not_entered _ _ _ _ c.linger.ensures.kind_value;
       counted_step = counted F (Linger _) same refl refl _ _ _ _ _ 0 refl (record { added = refl; raised = refl });
       shown_left = shown_kept F (Linger _) same refl _;
@@ -168,7 +168,7 @@ unfolding started_in
 returns-in-Grant c = let F = found (turn_of _ _ _ c.requires.ready) c.place_by_row-p.ensures c.domain_by_row-l.ensures c.member_at-w.ensures in
     let same = c.in-Grant.is in let done = c.grant.ensures.row_done in
     record {
-      fact = taken F (Grant _ _ _) _ _ _ same done.places_kept (λ here. done.does _ _ (stands F));
+      fact = taken F (Grant _ _ _) _ _ _ same done.places_kept (λ ps here. done.does _ _ ps (stands F));
       entered = rw c.grant.ensures.entries_kept (not_entered _ _ _ _ c.grant.ensures.kind_value);
       counted_step = counted F (Grant _ _ _) same refl refl _ _ _ _ _ _ refl c.grant.ensures.started;
       shown_left = shown_kept F (Grant _ _ _) same refl _;
@@ -179,7 +179,7 @@ unfolding started_in
 returns-in-Draw c = let F = found (turn_of _ _ _ c.requires.ready) c.place_by_row-p.ensures c.domain_by_row-l.ensures c.member_at-w.ensures in
     let same = c.in-Draw.is in let done = c.draw.ensures.row_done in
     record {
-      fact = taken F Draw _ _ _ same done.places_kept (λ here. done.does _ _ (stands F));
+      fact = taken F Draw _ _ _ same done.places_kept (λ ps here. done.does _ _ ps (stands F));
       entered = rw F.member.home_is at c.draw.ensures.entered;
       counted_step = counted F Draw same refl refl _ _ _ _ _ _ (ap (cond (eqb (number_of_kind c.draw.result.kind) 1) 0) (own_taken F ∙ ap (taken_in _ _ _) (at_domain F Draw same))) c.draw.ensures.started;
       shown_left = shown_kept F Draw same refl _;
@@ -190,7 +190,7 @@ unfolding started_in
 returns-in-Watch c = let F = found (turn_of _ _ _ c.requires.ready) c.place_by_row-p.ensures c.domain_by_row-l.ensures c.member_at-w.ensures in
     let same = c.in-Watch.is in let done = c.watch.ensures.row_done c.args.words.now in
     record {
-      fact = taken F Watch _ _ _ same done.places_kept (λ here. done.does _ _ (stands F, (refl, (refl, sym here))));
+      fact = taken F Watch _ _ _ same done.places_kept (λ ps here. done.does _ _ ps (stands F, (refl, (refl, sym here))));
       entered = rw F.member.home_is at c.watch.ensures.entered;
       counted_step = counted F Watch same refl refl _ _ _ _ _ 0 refl (record { added = refl; raised = refl });
       shown_left = shown_kept F Watch same refl _;
@@ -200,7 +200,7 @@ pub returns-in-Raise : goal.returns-in-Raise
 returns-in-Raise c = let F = found (turn_of _ _ _ c.requires.ready) c.place_by_row-p.ensures c.domain_by_row-l.ensures c.member_at-w.ensures in
     let same = c.in-Raise.is in let done = c.raise.ensures.row_done in
     record {
-      fact = taken F Raise _ _ _ same done.places_kept (λ here. done.does _ _ (stands F));
+      fact = taken F Raise _ _ _ same done.places_kept (λ ps here. done.does _ _ ps (stands F));
       entered = rw c.count_shown.ensures.entries_kept (not_entered _ _ _ _ c.raise.ensures.kind_value);
       counted_step = raise_counted _ _ _ _ _ _ _ _ _ (row_of F Raise same) c.count_shown.ensures.counted_shown;
       shown_left = record { raise = λ z. c.count_shown.ensures.clear; other = λ n. absurd (n (row_of F Raise same)) };

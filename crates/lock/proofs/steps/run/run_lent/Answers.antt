@@ -2,6 +2,7 @@
 use mathlib.Core.Path.{sym, ap}
 use Rattle.model.specs.declared.PlaceArrays.{PlaceArrays}
 use Rattle.model.specs.States.{store_numbers}
+use Rattle.rows.proofs.step.TakenHere.{done_here}
 use Rattle.rows.specs.Kinds.{number_of_kind}
 use native.Mathlib.Omega.{arith}
 use Rattle.model.specs.Trees.{tree_of}
@@ -50,7 +51,7 @@ take-m-requires-clause-shown_for c = shown_for c.args.tree.now (early_facts _ _ 
 
 pub count_in-requires : goal.count_in-requires
 count_in-requires c = let r = early_facts _ _ _ _ c.requires in
-    let does = rw c.place_at-before.ensures at (c.take-m.ensures.fact.does (sym c.place_at-before.ensures)) in
+    let does = rw c.place_at-before.ensures at (done_here c.take-m.ensures.fact (sym c.place_at-before.ensures)) in
     kind_room _ _ _ _ _ c.loop-k.state.words _ _ _ _ _ c.loop-k.invariant.0 does c.loop-k-test.true r.short
 
 pub put_place-requires : goal.put_place-requires
@@ -72,7 +73,7 @@ loop-k-preserved c = let test = c.loop-k-test.true in
     let r = early_facts _ _ _ _ c.requires in
     let n = c.loop-k.state.words in
     let m = c.take-m.result in
-    let does = rw stands at (c.take-m.ensures.fact.does (sym stands)) in
+    let does = rw stands at (done_here c.take-m.ensures.fact (sym stands)) in
     let kept = c.take-m.ensures.fact.places_kept in
     let th = thread_at _ _ r.threads _ test in
     let so_far = c.loop-k.invariant.0 in
