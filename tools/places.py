@@ -96,7 +96,7 @@ points = [
     ("1d numbers for kinds", lines(r"const [A-Z_]+: u8|model::(STAY|OTHER_MOVE|ROOT_ENTRY|PASSED_ENTRY|CROSSED_ENTRY|LEAVING)")),
     ("1e numbers for none", lines(r"return (64|255|256|300|400);|\[255u8; |== (64|255|300|400)\b")),
     ("2 functions with one body but for names, types and numbers", twins()),
-    ("3 while and loop", lines(r"^\s*(while|loop)\b")),
+    ("3 while and loop", lines(r"^\s*(let \w+ = )?(while|loop)\b")),
     ("4a conversions by functions of the crate casts", lines(r"\bcasts::\w+\(")),
     ("4b largest and smallest by hand, sums that stop at the largest number by hand", lines(r"\bfn (larger|smaller|least_of|capped_sum|capped_product|differs|both)\b")),
     ("5a functions with more than seven parameters", [f"{p}: {n} ({parameters(w)})" for p, n, w in functions() if parameters(w) > 7]),
