@@ -14,7 +14,7 @@ use chain::ChainReply;
 use model::{LockState, TreeWords};
 use refusals::of_runs;
 use refusals::reasons::{Reason, Refusal};
-use tables::Tables;
+use tables::{Lock, Tables};
 
 // The length of a thread's chain, which is left at the front of a buffer.
 fn chain_length(
@@ -31,9 +31,12 @@ fn chain_length(
     if buffer.len() < tree.threads as usize {
         return Err(Reason::ChainShort.at(0));
     }
+    let lock = Lock {
+        tree,
+        state: &state.words,
+    };
     let mut found = [0; 256];
-    let tables = Tables::of(tree, &state.words);
-    match tables.follow(tree, &state.words, thread, &mut found) {
+    match Tables::of(&lock).follow(&lock, thread, &mut found) {
         Some(n) => {
             buffer[..n].copy_from_slice(&found[..n]);
             Ok(n as u32)

@@ -3,14 +3,12 @@ ghost use Rattle.std.specs.Prelude.{◌≡◌, true, ◌<◌, ◌≤◌, get_or}
 ghost use Rattle.chain_call.specs.declared.tables.Count.TheVariants.{Nobody};
 ghost use Rattle.model.specs.Trees.{tree_of, on_path};
 ghost use Rattle.model.specs.States.{numbers_at};
-ghost use Rattle.model.specs.WellFormed.{well_formed};
-ghost use Rattle.model.specs.Refusals.{tree_refusal};
 ghost use Rattle.chain.specs.Chain.{chain};
 ghost use Rattle.chain.proofs.Stays.{waits_in};
 ghost use Rattle.chain_call.specs.Tables.{to, only_with, watch_link, link_in, SoundPlace, link_by, Filled, Followed};
 
-use crate::tables::{Count, Tables, own_record};
-use model::{PlaceWords, State, TreeWords};
+use crate::tables::{Count, Lock, Tables, own_record};
+use model::PlaceWords;
 use refusals::of_runs::places;
 
 // Where a thread's link leads: the thread's next step is not a stay, or it looks to this thread only, or to none or several.
@@ -70,55 +68,46 @@ fn watch_link(v: u64, grant: u16, tickets: &[Option<u16>; 256], threads: u32) ->
 
 impl Tables {
     // A thread's link, given the words of its place and its record there.
-    fn link_in(&self, tree: &TreeWords, state: &State, q: PlaceWords, r: u16) -> Link
-        requires r_bound { (r < 320) × (tree.now.threads ≤ 256) }
-        requires v_bound { q.row ≡ 12 → get_or state.now.statuses r 0 ≤ 65535 }
-        ensures { result ≡ link_in q r (get_or state.now.statuses r 0) (get_or state.now.nexts r 0) state.now.grant (get_or self.now.ahead r Nobody) self.now.linking self.now.tickets tree.now.threads }
+    fn link_in(&self, lock: &Lock, q: PlaceWords, r: u16) -> Link
+        requires r_bound { (r < 320) × (lock.now.tree.now.threads ≤ 256) }
+        requires v_bound { q.row ≡ 12 → get_or lock.now.state.now.statuses r 0 ≤ 65535 }
+        ensures { result ≡ link_in q r (get_or lock.now.state.now.statuses r 0) (get_or lock.now.state.now.nexts r 0) lock.now.state.now.grant (get_or self.now.ahead r Nobody) self.now.linking self.now.tickets lock.now.tree.now.threads }
     {
         let at = usize::from(r);
-        let v = state.statuses[at];
+        let v = lock.state.statuses[at];
         match q.row {
             4 if waits(q.domain, v) => to(self.ahead[at].only()),
-            9 if state.nexts[at] == 0 => to(only_with(&self.linking, tree.threads, r)),
-            12 => watch_link(v, state.grant, &self.tickets, tree.threads),
+            9 if lock.state.nexts[at] == 0 => to(only_with(&self.linking, lock.tree.threads, r)),
+            12 => watch_link(v, lock.state.grant, &self.tickets, lock.tree.threads),
             _ => Link::Moves,
         }
     }
 
     // A thread's link.
-    fn link(&self, tree: &TreeWords, state: &State, i: u16) -> Link
-        requires tree_value { (tree_refusal (tree_of tree.now)).number ≡ 0 }
-        requires i_lt_threads { i < tree.now.threads }
-        requires sound_place { SoundPlace (tree_of tree.now) state.now.statuses i (numbers_at state.now.places i) }
-        ensures { result ≡ link_by (tree_of tree.now) state.now self.now.ahead self.now.linking self.now.tickets i }
+    fn link(&self, lock: &Lock, i: u16) -> Link
+        requires i_lt_threads { i < lock.now.tree.now.threads }
+        requires sound_place { SoundPlace (tree_of lock.now.tree.now) lock.now.state.now.statuses i (numbers_at lock.now.state.now.places i) }
+        ensures { result ≡ link_by (tree_of lock.now.tree.now) lock.now.state.now self.now.ahead self.now.linking self.now.tickets i }
     {
-        let q = places::place_at(&state.places, usize::from(i));
-        let r = own_record(tree, i, q.domain);
-        self.link_in(tree, state, q, r)
+        let q = places::place_at(&lock.state.places, usize::from(i));
+        let r = own_record(lock, i, q.domain);
+        self.link_in(lock, q, r)
     }
 
     // The chain of a thread at the front of an array, and its length; nothing if it breaks off.
-    pub(crate) fn follow(
-        &self,
-        tree: &TreeWords,
-        state: &State,
-        thread: u16,
-        found: &mut [u16; 256],
-    ) -> Option<usize>
-        requires tree_value { (tree_refusal (tree_of tree.now)).number ≡ 0 }
-        requires state_value { well_formed (tree_of tree.now) state.now ≡ true }
-        requires thread_lt_threads { thread < tree.now.threads }
-        requires filled { Filled (tree_of tree.now) state.now tree.now.threads self.now.ahead self.now.linking self.now.tickets }
-        ensures { Followed tree.now.threads (chain (tree_of tree.now) state.now thread) found.new result }
+    pub(crate) fn follow(&self, lock: &Lock, thread: u16, found: &mut [u16; 256]) -> Option<usize>
+        requires thread_lt_threads { thread < lock.now.tree.now.threads }
+        requires filled { Filled (tree_of lock.now.tree.now) lock.now.state.now lock.now.tree.now.threads self.now.ahead self.now.linking self.now.tickets }
+        ensures { Followed lock.now.tree.now.threads (chain (tree_of lock.now.tree.now) lock.now.state.now thread) found.new result }
     {
-        let threads = tree.threads as usize;
+        let threads = lock.tree.threads as usize;
         let mut seen = [false; 256];
         seen[usize::from(thread)] = true;
         *found = [0; 256];
         found[0] = thread;
         let mut i = thread;
         for n in 1..threads + 1 {
-            match self.link(tree, state, i) {
+            match self.link(lock, i) {
                 Link::Moves => return Some(n),
                 Link::Broken => return None,
                 Link::To(j) => {

@@ -4,7 +4,7 @@ ghost use Rattle.model.specs.Trees.{tree_of, own_record};
 ghost use Rattle.model.specs.WellFormed.{well_formed};
 ghost use Rattle.model.specs.Refusals.{tree_refusal};
 ghost use Rattle.model.specs.Acts.{sends_inside};
-ghost use Rattle.chain_call.specs.Tables.{more, only_in, acts_everywhere, joins, acts_from, OwnedNexts, noted, Noted, link_key, ticket_key, Filled};
+ghost use Rattle.chain_call.specs.Tables.{more, only_in, acts_everywhere, joins, acts_from, noted, Noted, link_key, ticket_key, Filled};
 ghost use Rattle.model.proofs.Trees.Index.{height};
 
 use model::{PlaceWords, State, TreeWords};
@@ -40,6 +40,15 @@ impl Count {
     }
 }
 
+// A lock whose threads may wait: an accepted tree, and a state that is well formed for it.
+#[derive(Clone, Copy)]
+pub(crate) struct Lock<'a> {
+    pub(crate) tree: &'a TreeWords,
+    pub(crate) state: &'a State,
+    ghost accepted: { (tree_refusal (tree_of tree.now)).number ≡ 0 },
+    ghost formed: { well_formed (tree_of tree.now) state.now ≡ true },
+}
+
 // The tables of a state.
 #[derive(Clone, Copy)]
 pub struct Tables {
@@ -52,13 +61,12 @@ pub struct Tables {
 }
 
 // The record that a thread uses at a domain.
-pub(crate) fn own_record(tree: &TreeWords, i: u16, l: u8) -> u16
-    requires tree_value { (tree_refusal (tree_of tree.now)).number ≡ 0 }
-    requires i_lt_threads { i < tree.now.threads }
-    ensures { (result ≡ own_record (tree_of tree.now) i l) × (result < 320) }
+pub(crate) fn own_record(lock: &Lock, i: u16, l: u8) -> u16
+    requires { i < lock.now.tree.now.threads }
+    ensures { (result ≡ own_record (tree_of lock.now.tree.now) i l) × (result < 320) }
 {
-    let home = tree.homes[usize::from(i)];
-    refusals::paths::record_at(tree, i, home, l)
+    let home = lock.tree.homes[usize::from(i)];
+    refusals::paths::record_at(lock.tree, i, home, l)
 }
 
 // Whether a status sends a thread in Wait Inside.
@@ -137,60 +145,54 @@ fn note_next(ahead: &mut [Count; 320], next: u16, j: u16)
 }
 
 // Enters a thread at each record named by the next of a record for which it acts.
-fn note_path(ahead: &mut [Count; 320], tree: &TreeWords, nexts: &[u16; 320], j: u16, from: u16)
-    requires tree_value { (tree_refusal (tree_of tree.now)).number ≡ 0 }
-    requires j_lt_threads { j < tree.now.threads }
-    requires owned_nexts { OwnedNexts (tree_of tree.now) nexts.now }
+fn note_path(ahead: &mut [Count; 320], lock: &Lock, j: u16, from: u16)
+    requires j_lt_threads { j < lock.now.tree.now.threads }
     requires ahead_len { length ahead.old ≡ 320 }
-    ensures fact { let t = tree_of tree.now in Noted t nexts.now from j (suc (height t j)) ahead.old ahead.new }
+    ensures fact { let t = tree_of lock.now.tree.now in Noted t lock.now.state.now.nexts from j (suc (height t j)) ahead.old ahead.new }
     ensures ahead_len_2 { length ahead.new ≡ 320 }
 {
     let mut r = usize::from(j);
-    let mut c = tree.homes[usize::from(j)];
+    let mut c = lock.tree.homes[usize::from(j)];
     // Kept: the climb ends at a domain that the tree gives, which no range names.
     while from <= u16::from(c) {
-        note_next(ahead, nexts[r], j);
+        note_next(ahead, lock.state.nexts[r], j);
         if c == 0 {
             return;
         }
         r = 256 + usize::from(c);
-        c = tree.parents[usize::from(c)];
+        c = lock.tree.parents[usize::from(c)];
     }
 }
 
 impl Tables {
     // The tables of a state.
-    pub(crate) fn of(tree: &TreeWords, state: &State) -> Tables
-        requires tree_value { (tree_refusal (tree_of tree.now)).number ≡ 0 }
-        requires state_value { well_formed (tree_of tree.now) state.now ≡ true }
-        ensures { Filled (tree_of tree.now) state.now tree.now.threads result.ahead result.linking result.tickets }
+    pub(crate) fn of(lock: &Lock) -> Tables
+        ensures { Filled (tree_of lock.now.tree.now) lock.now.state.now lock.now.tree.now.threads result.ahead result.linking result.tickets }
     {
         let mut tables = Tables {
             ahead: [Count::Nobody; 320],
             linking: [None; 256],
             tickets: [None; 256],
         };
-        for j in 0..tree.threads as u16 {
-            tables.enter(tree, state, j);
+        for j in 0..lock.tree.threads as u16 {
+            tables.enter(lock, j);
         }
         tables
     }
 
     // Enters one more thread.
-    fn enter(&mut self, tree: &TreeWords, state: &State, j: u16)
-        requires tree_value { (tree_refusal (tree_of tree.now)).number ≡ 0 }
-        requires state_value { well_formed (tree_of tree.now) state.now ≡ true }
-        requires j_lt_threads { j < tree.now.threads }
-        requires filled { Filled (tree_of tree.now) state.now j self.old.ahead self.old.linking self.old.tickets }
-        ensures { Filled (tree_of tree.now) state.now (j + 1) self.new.ahead self.new.linking self.new.tickets }
+    fn enter(&mut self, lock: &Lock, j: u16)
+        requires j_lt_threads { j < lock.now.tree.now.threads }
+        requires filled { Filled (tree_of lock.now.tree.now) lock.now.state.now j self.old.ahead self.old.linking self.old.tickets }
+        ensures { Filled (tree_of lock.now.tree.now) lock.now.state.now (j + 1) self.new.ahead self.new.linking self.new.tickets }
     {
         let at = usize::from(j);
-        let q = places::place_at(&state.places, at);
-        let there = own_record(tree, j, q.domain);
-        let from = acts_from(q, state.statuses[usize::from(there)]);
-        let root = own_record(tree, j, 0);
+        let q = places::place_at(&lock.state.places, at);
+        let there = own_record(lock, j, q.domain);
+        let from = acts_from(q, lock.state.statuses[usize::from(there)]);
+        let root = own_record(lock, j, 0);
         self.linking[at] = link_key(q);
-        self.tickets[at] = ticket_key(from, state.statuses[usize::from(root)]);
-        note_path(&mut self.ahead, tree, &state.nexts, j, from);
+        self.tickets[at] = ticket_key(from, lock.state.statuses[usize::from(root)]);
+        note_path(&mut self.ahead, lock, j, from);
     }
 }

@@ -15,17 +15,8 @@ returns-then-buffer-tree-clause-refused c = rw c.at.ensures (answered_20 c.args.
 pub returns-then-buffer-tree-clause-buffer_after : goal.returns-then-buffer-tree-clause-buffer_after
 returns-then-buffer-tree-clause-buffer_after c = buffer_refused c.args.tree.now c.args.state.now c.args.thread c.args.buffer.now c.at.result (rw c.at.ensures (answered_20 c.args.tree.now c.args.state.now c.args.thread c.args.buffer.now c.in_ok-lent_refusal_of.ensures c.if-buffer-tree.true))
 
-pub of-tables-requires-clause-tree_value : goal.of-tables-requires-clause-tree_value
-of-tables-requires-clause-tree_value c = tree_good c.args.tree.now c.args.state.now c.args.thread c.args.buffer.now c.in_ok-lent_refusal_of.ensures
-
-pub of-tables-requires-clause-state_value : goal.of-tables-requires-clause-state_value
-of-tables-requires-clause-state_value c = form_good c.args.tree.now c.args.state.now c.args.thread c.args.buffer.now c.in_ok-lent_refusal_of.ensures
-
-pub follow-requires-clause-tree_value : goal.follow-requires-clause-tree_value
-follow-requires-clause-tree_value c = tree_good c.args.tree.now c.args.state.now c.args.thread c.args.buffer.now c.in_ok-lent_refusal_of.ensures
-
-pub follow-requires-clause-state_value : goal.follow-requires-clause-state_value
-follow-requires-clause-state_value c = form_good c.args.tree.now c.args.state.now c.args.thread c.args.buffer.now c.in_ok-lent_refusal_of.ensures
+pub invariant_of-lock : goal.invariant_of-lock
+invariant_of-lock c = record { accepted = tree_good c.args.tree.now c.args.state.now c.args.thread c.args.buffer.now c.in_ok-lent_refusal_of.ensures; formed = form_good c.args.tree.now c.args.state.now c.args.thread c.args.buffer.now c.in_ok-lent_refusal_of.ensures }
 
 pub follow-requires-clause-thread_lt_threads : goal.follow-requires-clause-thread_lt_threads
 follow-requires-clause-thread_lt_threads c = thread_good c.args.tree.now c.args.state.now c.args.thread c.args.buffer.now c.in_ok-lent_refusal_of.ensures

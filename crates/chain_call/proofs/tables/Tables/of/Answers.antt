@@ -5,7 +5,7 @@ use Rattle.chain_call.proofs.Filling.{fill_first}
 use Rattle.chain_call.proofs.tables.Tables.of.Goals as goal
 
 pub overflow_cast-j-end : goal.overflow_cast-j-end
-overflow_cast-j-end c = omega (arith, few_threads _ c.requires.tree_value)
+overflow_cast-j-end c = omega (arith, few_threads _ c.args.lock.now.accepted)
 
 pub loop-j-init : goal.loop-j-init
 loop-j-init c = fill_first _ _
