@@ -6,7 +6,7 @@ pub mod paths;
 pub mod reasons;
 pub mod state_check;
 
-ghost use Rattle.std.specs.Prelude.{◌≡◌, ◌<◌, ◌≤◌, length};
+ghost use Rattle.std.specs.Prelude.{◌≡◌, IfOk, length};
 ghost use Rattle.model.specs.Trees.{tree_of};
 ghost use Rattle.model.specs.Refusals.{first_refusal, count_tests, domain_tests, tree_refusal, bad_entry};
 ghost use Rattle.refusals.specs.Arrays.{threads_in, shape_tests, schedule_room_tests};
@@ -17,10 +17,12 @@ mod trees;
 
 use model::TreeWords;
 use reasons::{Reason, Refusal};
+use trees::CountedTree;
 
 // 4 and 5 for the numbers of domains and threads.
-fn counts_refusal(tree: &TreeWords) -> Result<(), Refusal>
-    ensures { refusal_of result ≡ first_refusal (count_tests (tree_of tree.now)) }
+fn counted_tree(tree: &TreeWords) -> Result<CountedTree<'_>, Refusal>
+    ensures refused { refusal_of result ≡ first_refusal (count_tests (tree_of tree.now)) }
+    ensures words { IfOk result (λ counted. counted.words.now ≡ tree.now) }
 {
     if !(1..=64).contains(&tree.domains) {
         return Err(Reason::BadDomains.at(0));
@@ -28,13 +30,12 @@ fn counts_refusal(tree: &TreeWords) -> Result<(), Refusal>
     if !(1..=256).contains(&tree.threads) {
         return Err(Reason::BadThreads.at(0));
     }
-    Ok(())
+    Ok(CountedTree { words: tree })
 }
 
 // 6 to 8 for the domains. One pass is enough if none fails.
-fn domains_refusal(tree: &TreeWords) -> Result<(), Refusal>
-    requires { (0 < tree.now.domains) × (tree.now.domains ≤ 64) }
-    ensures { refusal_of result ≡ first_refusal (domain_tests (tree_of tree.now)) }
+fn domains_refusal(tree: &CountedTree) -> Result<(), Refusal>
+    ensures { refusal_of result ≡ first_refusal (domain_tests (tree_of tree.now.words.now)) }
 {
     if trees::domains_pass(tree) {
         return Ok(());
@@ -52,24 +53,26 @@ fn domains_refusal(tree: &TreeWords) -> Result<(), Refusal>
 }
 
 // 4 to 8, which do not read homes.
-fn shape_refusal(tree: &TreeWords) -> Result<(), Refusal>
-    ensures { refusal_of result ≡ first_refusal (shape_tests (tree_of tree.now)) }
+fn shaped_tree(tree: &TreeWords) -> Result<CountedTree<'_>, Refusal>
+    ensures refused { refusal_of result ≡ first_refusal (shape_tests (tree_of tree.now)) }
+    ensures words { IfOk result (λ counted. counted.words.now ≡ tree.now) }
 {
-    counts_refusal(tree)?;
-    domains_refusal(tree)
+    let counted = counted_tree(tree)?;
+    domains_refusal(&counted)?;
+    Ok(counted)
 }
 
 // The home that 9 refuses, or the domain that 16 refuses, if 4 to 8 refuse nothing.
-fn homes_refusal(tree: &TreeWords) -> Result<(), Refusal>
-    requires { (first_refusal (shape_tests (tree_of tree.now))).number ≡ 0 }
-    ensures { refusal_of result ≡ tree_refusal (tree_of tree.now) }
+fn homes_refusal(tree: &CountedTree) -> Result<(), Refusal>
+    requires { (first_refusal (shape_tests (tree_of tree.now.words.now))).number ≡ 0 }
+    ensures { refusal_of result ≡ tree_refusal (tree_of tree.now.words.now) }
 {
     let unfit = trees::unfit_homes(tree);
     if let Some(i) = trees::lowest_bad_home(tree, &unfit) {
         return Err(Reason::BadHome.at(i));
     }
     let occupied = trees::occupied(tree);
-    if let Some(d) = trees::lowest_empty(&occupied, tree.domains) {
+    if let Some(d) = trees::lowest_empty(&occupied, tree.words.domains) {
         return Err(Reason::EmptyDomain.at(d));
     }
     Ok(())
@@ -79,11 +82,11 @@ fn homes_refusal(tree: &TreeWords) -> Result<(), Refusal>
 pub fn tree_refusal_of(tree: &TreeWords) -> Result<(), Refusal>
     ensures { refusal_of result ≡ tree_refusal (tree_of tree.now) }
 {
-    shape_refusal(tree)?;
-    if trees::homes_are_leaves(tree) {
+    let counted = shaped_tree(tree)?;
+    if trees::homes_are_leaves(&counted) {
         return Ok(());
     }
-    homes_refusal(tree)
+    homes_refusal(&counted)
 }
 
 fn lowest_bad_entry(schedule: &[u16], threads: u32) -> Option<usize>

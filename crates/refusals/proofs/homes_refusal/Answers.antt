@@ -5,35 +5,28 @@ use Rattle.refusals.proofs.TreeTests.{shape, home_refused, facts, empty_refused,
 use Rattle.refusals.proofs.Occupying.{homes_real, occupied_lowest}
 use Rattle.refusals.proofs.homes_refusal.Goals as goal
 
-pub unfit_homes-unfit-requires : goal.unfit_homes-unfit-requires
-unfit_homes-unfit-requires c = let k = shape c.args.tree.now c.requires in (k.some_domain, k.few_domains)
-
 pub lowest_bad_home-requires : goal.lowest_bad_home-requires
-lowest_bad_home-requires c = let k = shape c.args.tree.now c.requires in
-    record { domains_bound = (k.few_domains, k.few_threads); unfit_homes = c.unfit_homes-unfit.ensures }
+lowest_bad_home-requires c = c.unfit_homes-unfit.ensures
 
 pub returns-in-Some : goal.returns-in-Some
 returns-in-Some c = let i = c.in-Some.ensures in
-    rw c.at.ensures (sym (home_refused c.args.tree.now c.requires _ i.0 i.1))
+    rw c.at.ensures (sym (home_refused c.args.tree.now.words.now c.requires _ i.0 i.1))
 
 pub occupied-occupied-requires : goal.occupied-occupied-requires
-occupied-occupied-requires c = let w = c.args.tree.now in
+occupied-occupied-requires c = let w = c.args.tree.now.words.now in
     let k = shape w c.requires in
     let l₉ = none_found _ _ c.lowest_bad_home.result (search rules) c.lowest_bad_home.ensures in
-    record { domains_nonzero = (k.some_domain, k.few_domains, k.few_threads); lower = k.low; real_homes = homes_real w (facts w c.requires _ l₉ (omega arith)) }
-
-pub lowest_empty-requires : goal.lowest_empty-requires
-lowest_empty-requires c = (shape c.args.tree.now c.requires).few_domains
+    record { lower = k.low; real_homes = homes_real w (facts w c.requires _ l₉ (omega arith)) }
 
 pub returns-in-Some-lowest_empty : goal.returns-in-Some-lowest_empty
-returns-in-Some-lowest_empty c = let w = c.args.tree.now in
+returns-in-Some-lowest_empty c = let w = c.args.tree.now.words.now in
     let l₉ = none_found _ _ c.lowest_bad_home.result (search rules) c.lowest_bad_home.ensures in
     let d = c.in-Some-lowest_empty.ensures in
     let l₁₆ = occupied_lowest w (facts w c.requires _ l₉ (omega arith)) _ c.occupied-occupied.ensures _ d.0 in
     rw c.at-in-Some-lowest_empty.ensures (sym (empty_refused w c.requires _ l₉ (omega arith) _ l₁₆ d.1))
 
 pub returns : goal.returns
-returns c = let w = c.args.tree.now in
+returns c = let w = c.args.tree.now.words.now in
     let l₉ = none_found _ _ c.lowest_bad_home.result (search rules) c.lowest_bad_home.ensures in
     let none = none_found _ _ c.lowest_empty.result (search rules) c.lowest_empty.ensures in
     let l₁₆ = occupied_lowest w (facts w c.requires _ l₉ (omega arith)) _ c.occupied-occupied.ensures _ none in

@@ -13,4 +13,4 @@ returns c =
     let long : length us ≡ 256 = search rules in
     let folded = fold_from_yields_List _ (λ (same : Bool) (p : Bool × Bool). same && differ p.0 p.1) true c.fold.result c.fold.ensures.ran
     (YieldsList-from_zip (YieldsList-from_slice ms (cc)) (YieldsList-from_slice us (cc))) (λ a x b q k. search (rules, tests)) in
-    tables_differ _ _ _ _ ms us _ c.requires.1 c.marked_homes-marked.ensures c.unfit_homes-unfit.ensures (rw room at (folded ∙ fold_alike ms us true (room ∙ sym long)))
+    tables_differ _ _ _ _ ms us _ c.args.tree.now.few_domains c.marked_homes-marked.ensures c.unfit_homes-unfit.ensures (rw room at (folded ∙ fold_alike ms us true (room ∙ sym long)))

@@ -8,15 +8,15 @@ pub loop-i-init : goal.loop-i-init
 loop-i-init c = scan_begun _ _
 
 pub returns-then-unfit-h : goal.returns-then-unfit-h
-returns-then-unfit-h c = let small : get_or c.args.tree.now.homes c.loop-i.i 0 < 256 = search rules in
+returns-then-unfit-h c = let small : get_or c.args.tree.now.words.now.homes c.loop-i.i 0 < 256 = search rules in
     let bad = rw c.from-h.ensures at c.if-unfit-h.true in
-    (scan_found _ _ _ c.loop-i.invariant (sym (home_test c.args.tree.now _ _ c.requires.unfit_homes c.loop-i-test.true small) ∙ bad), c.loop-i-test.true)
+    (scan_found _ _ _ c.loop-i.invariant (sym (home_test c.args.tree.now.words.now _ _ c.requires c.loop-i-test.true small) ∙ bad), c.loop-i-test.true)
 
 pub loop-i-preserved : goal.loop-i-preserved
-loop-i-preserved c = let small : get_or c.args.tree.now.homes c.loop-i.i 0 < 256 = search rules in
+loop-i-preserved c = let small : get_or c.args.tree.now.words.now.homes c.loop-i.i 0 < 256 = search rules in
     let good = rw c.from-h.ensures at c.if-unfit-h.false in
-    scan_goes_on _ _ _ c.loop-i.invariant c.loop-i-test.true (sym (home_test c.args.tree.now _ _ c.requires.unfit_homes c.loop-i-test.true small) ∙ good)
+    scan_goes_on _ _ _ c.loop-i.invariant c.loop-i-test.true (sym (home_test c.args.tree.now.words.now _ _ c.requires c.loop-i-test.true small) ∙ good)
 
 pub returns : goal.returns
-returns c = let n = c.args.tree.now.threads in
+returns c = let n = c.args.tree.now.words.now.threads in
     (scan_ended n _ n (omega arith, λ j l. c.loop-i.invariant.1 j (omega arith)) (omega arith), tt)

@@ -5,4 +5,4 @@ use Rattle.refusals.proofs.Scanning.{Scanned}
 use Rattle.refusals.proofs.trees.lowest_bad_home.Given as goal
 
 abbrev pub invariant-loop-i : goal.invariant-loop-i
-invariant-loop-i l = Scanned l.tree.threads (bad_home (tree_of l.tree)) l.i
+invariant-loop-i l = Scanned l.tree.words.now.threads (bad_home (tree_of l.tree.words.now)) l.i

@@ -14,7 +14,7 @@ use Rattle.refusals.proofs.trees.lowest_bad_parent.Goals as goal
 pub returns : goal.returns
 unfolding bad_parent
 returns c =
-    let w = c.args.tree.now in
+    let w = c.args.tree.now.words.now in
     let test : ℕ → Bool = λ d. leb d (get_or w.parents d 0) in
     found_lowest test (bad_parent (tree_of w)) 1 w.domains c.find.result
     (find_from_yields_List test _ _ c.find.result c.find.ensures.ran (YieldsList-from_range 1 w.domains _ (cc) refl) (λ x b q k. search (rules, tests)))

@@ -14,18 +14,18 @@ here w d p l small = rw (ne_eqb d 0 (omega arith), threshold_of w d (omega arith
 
 pub loop-d-init : goal.loop-d-init
 unfolding no_threshold
-loop-d-init c = (omega (arith, c.requires.0), single _ false refl)
+loop-d-init c = (omega (arith, c.args.tree.now.some_domain), single _ false refl)
 
 pub returns-then-tree-d-eq0 : goal.returns-then-tree-d-eq0
-returns-then-tree-d-eq0 c = let w = c.args.tree.now in
+returns-then-tree-d-eq0 c = let w = c.args.tree.now.words.now in
     let small : get_or w.thresholds c.loop-d.d 0 < 65536 = search rules in
     (scan_found _ _ _ c.loop-d.invariant (rw (here w c.loop-d.d c.loop-d.auto.d c.loop-d-test.true small) (eq-eqb _ _ c.if-tree-d-eq0.true)), c.loop-d-test.true)
 
 pub loop-d-preserved : goal.loop-d-preserved
-loop-d-preserved c = let w = c.args.tree.now in
+loop-d-preserved c = let w = c.args.tree.now.words.now in
     let small : get_or w.thresholds c.loop-d.d 0 < 65536 = search rules in
     scan_goes_on _ _ _ c.loop-d.invariant c.loop-d-test.true (rw (here w c.loop-d.d c.loop-d.auto.d c.loop-d-test.true small) (ne_eqb _ _ c.if-tree-d-eq0.false))
 
 pub returns : goal.returns
-returns c = let n = c.args.tree.now.domains in
+returns c = let n = c.args.tree.now.words.now.domains in
     (scan_ended n _ n (omega arith, λ j l. c.loop-d.invariant.1 j (omega arith)) (omega arith), tt)

@@ -5,4 +5,4 @@ use Rattle.refusals.proofs.Scanning.{Scanned}
 use Rattle.refusals.proofs.trees.lowest_no_threshold.Given as goal
 
 abbrev pub invariant-loop-d : goal.invariant-loop-d
-invariant-loop-d l = Scanned l.tree.domains (no_threshold (tree_of l.tree)) l.d
+invariant-loop-d l = Scanned l.tree.words.now.domains (no_threshold (tree_of l.tree.words.now)) l.d

@@ -3,4 +3,4 @@ use Rattle.refusals.proofs.Levels.{Levels}
 use Rattle.refusals.proofs.trees.lowest_too_deep.Given as goal
 
 abbrev pub invariant-loop-d : goal.invariant-loop-d
-invariant-loop-d l = Levels l.tree l.levels l.d
+invariant-loop-d l = Levels l.tree.words.now l.levels l.d

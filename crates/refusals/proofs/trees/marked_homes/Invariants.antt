@@ -5,4 +5,4 @@ use Rattle.refusals.proofs.Homes.{MarkedBelow}
 use Rattle.refusals.proofs.trees.marked_homes.Given as goal
 
 abbrev pub invariant-loop-i : goal.invariant-loop-i
-invariant-loop-i l = MarkedBelow l.tree.homes l.marked l.i × ((j : ℕ) → j < l.i → get_or l.tree.homes j 0 < 256)
+invariant-loop-i l = MarkedBelow l.tree.words.now.homes l.marked l.i × ((j : ℕ) → j < l.i → get_or l.tree.words.now.homes j 0 < 256)

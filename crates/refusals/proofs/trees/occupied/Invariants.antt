@@ -4,4 +4,4 @@ use Rattle.refusals.proofs.Occupying.{MarkedDown}
 use Rattle.refusals.proofs.trees.occupied.Given as goal
 
 abbrev pub invariant-loop-d : goal.invariant-loop-d
-invariant-loop-d l = MarkedDown l.tree l.occupied (l.d - 1)
+invariant-loop-d l = MarkedDown l.tree.words.now l.occupied (l.d - 1)

@@ -3,4 +3,4 @@ use Rattle.refusals.proofs.Homes.{Marked}
 use Rattle.refusals.proofs.trees.unfit_homes.Given as goal
 
 abbrev pub invariant-loop-d : goal.invariant-loop-d
-invariant-loop-d l = Marked l.tree.domains l.tree.parents l.unfit l.d
+invariant-loop-d l = Marked l.tree.words.now.domains l.tree.words.now.parents l.unfit l.d
