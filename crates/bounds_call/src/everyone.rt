@@ -5,6 +5,7 @@ ghost use Rattle.bounds.specs.StarvationFreedom.Bounds.{levels, tenure_length, a
 ghost use Rattle.bounds.specs.Answers.{capped};
 ghost use Rattle.bounds_call.specs.Arrays.{rounds_above, Acquires, RoundsAbove};
 
+use crate::accepted_tree;
 use crate::members::{Members, effective_of, tenures_of};
 
 #[derive(Clone, Copy)]
@@ -20,7 +21,7 @@ impl<'a> Rounds<'a> {
     pub(crate) fn of(members: Members<'a>) -> Rounds<'a>
         ensures { result.members.tree.words.now ≡ members.entry.tree.words.now }
     {
-        let deepest = members.tree.levels();
+        let deepest = accepted_tree::levels(&members.tree);
         Rounds { members, deepest }
     }
 
@@ -32,7 +33,10 @@ impl<'a> Rounds<'a> {
         if d == 0 {
             return 1;
         }
-        effective_of(self.members.tree.threshold(d), self.members.counts[d])
+        effective_of(
+            accepted_tree::threshold(&self.members.tree, d),
+            self.members.counts[d],
+        )
     }
 
     // The rounds of a member from its domain to Inside, given those above the domain and the passes of its other members.
@@ -40,7 +44,7 @@ impl<'a> Rounds<'a> {
         requires { d < self.now.members.tree.words.now.domains }
         ensures { Acquires (tree_of self.now.members.tree.words.now) d above passes result }
     {
-        let level = self.members.tree.level(d);
+        let level = accepted_tree::level(&self.members.tree, d);
         let length = self.tenure_length(d);
         let members = self.members.counts[d];
         let all = tenures_of(members, length);
@@ -85,7 +89,7 @@ impl<'a> Rounds<'a> {
         ensures { result ≡ capped (acquire_bound (tree_of self.now.members.tree.words.now) i + release_bound (tree_of self.now.members.tree.words.now) i) }
     {
         let home = usize::from(self.members.tree.words.homes[i]);
-        let level = self.members.tree.level(home);
+        let level = accepted_tree::level(&self.members.tree, home);
         let acquired = self.acquire(home, above[home], self.members.others[i]);
         acquired.saturating_add(6 * level)
     }

@@ -13,11 +13,11 @@ mod everyone;
 mod members;
 pub mod wait_bounds;
 
-use accepted_tree::AcceptedTree;
 use bounds::RoundsReply;
 use everyone::Rounds;
 use members::Members;
 use model::TreeWords;
+use refusals::accepted_tree::AcceptedTree;
 use refusals::reasons::Refusal;
 
 // The allowances of an accepted tree, in a buffer for 64 domains; if refused, the buffer is unchanged.
@@ -25,7 +25,7 @@ pub fn allowances(tree: &TreeWords, buffer: &mut [u64; 64]) -> Result<(), Refusa
     ensures value { refusal_of result ≡ allowances_answer tree.now }
     ensures buffer_after { buffer.new ≡ allowances_left tree.now buffer.old }
 {
-    *buffer = AcceptedTree::of(tree)?.allowances();
+    *buffer = accepted_tree::allowances(&AcceptedTree::of(tree)?);
     Ok(())
 }
 

@@ -5,7 +5,8 @@ ghost use Rattle.bounds.specs.LongestWait.Bounds.{effective};
 ghost use Rattle.bounds_call.specs.Arrays.{Allowed};
 ghost use Rattle.bounds_call.specs.Waits.{word_of, Counted, Before, Others};
 
-use crate::accepted_tree::AcceptedTree;
+use crate::accepted_tree;
+use refusals::accepted_tree::AcceptedTree;
 
 #[derive(Clone, Copy)]
 pub(crate) struct Members<'a> {
@@ -39,7 +40,7 @@ fn count_members(tree: &AcceptedTree) -> [u64; 64]
 {
     let mut counts = [0; 64];
     for m in 0..320 {
-        if let Some(d) = tree.owner(m) {
+        if let Some(d) = accepted_tree::owner(tree, m) {
             counts[d] += 1;
         }
     }
@@ -61,8 +62,8 @@ fn passes_of(tree: &AcceptedTree, counts: &[u64; 64]) -> [u64; 64]
 {
     let mut words = [0; 64];
     for d in (1..tree.words.domains as usize).rev() {
-        let most = tree.largest_member(&words, d);
-        let threshold = effective_of(tree.threshold(d), counts[d]);
+        let most = accepted_tree::largest_member(tree, &words, d);
+        let threshold = effective_of(accepted_tree::threshold(tree, d), counts[d]);
         words[d] = u64::from(threshold).saturating_mul(most);
     }
     words
@@ -84,7 +85,7 @@ fn sums_before(tree: &AcceptedTree, passes: &[u64; 64]) -> [u64; 320]
     let mut before = [0; 320];
     let mut sums = [0u64; 64];
     for m in 0..320 {
-        if let Some(d) = tree.owner(m) {
+        if let Some(d) = accepted_tree::owner(tree, m) {
             before[m] = sums[d];
             sums[d] = sums[d].saturating_add(word_of(passes, m));
         }
@@ -101,7 +102,7 @@ fn sums_of_others(tree: &AcceptedTree, passes: &[u64; 64], before: &[u64; 320]) 
     let mut others = [0; 320];
     let mut sums = [0u64; 64];
     for m in (0..320).rev() {
-        if let Some(d) = tree.owner(m) {
+        if let Some(d) = accepted_tree::owner(tree, m) {
             others[m] = before[m].saturating_add(sums[d]);
             sums[d] = sums[d].saturating_add(word_of(passes, m));
         }

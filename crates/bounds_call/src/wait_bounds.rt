@@ -5,9 +5,10 @@ ghost use Rattle.refusals.specs.Reasons.{refusal_of};
 ghost use Rattle.bounds.specs.Answers.{capped, words_from, wait_word, wait_bounds_answer, wait_bounds_left};
 ghost use Rattle.bounds_call.specs.Waits.{added_above, Above};
 
-use crate::accepted_tree::AcceptedTree;
+use crate::accepted_tree;
 use crate::members::{Members, tenures_of};
 use model::TreeWords;
+use refusals::accepted_tree::AcceptedTree;
 use refusals::reasons::Refusal;
 
 // W of every thread of an accepted tree, in a buffer for 256 threads; if refused, the buffer is unchanged.
@@ -32,7 +33,7 @@ impl Members<'_> {
         }
         let parent = usize::from(self.tree.words.parents[d]);
         let own = self.others[256 + d].saturating_add(above[parent]);
-        tenures_of(self.counts[d], self.tree.threshold(d)).saturating_mul(own)
+        tenures_of(self.counts[d], accepted_tree::threshold(&self.tree, d)).saturating_mul(own)
     }
 
     // What each domain adds. A parent's number is lower, so the root comes first.

@@ -1,6 +1,7 @@
 // The refusals of trees and of schedules, numbers 4 to 9, 16 and 11 to 13; each test looks at everything before the next test.
 #![tactic(auto)]
 
+pub mod accepted_tree;
 pub mod of_runs;
 pub mod paths;
 pub mod reasons;

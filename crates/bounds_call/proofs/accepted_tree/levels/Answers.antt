@@ -5,7 +5,7 @@ use Rattle.model.specs.Scans.{largest_below}
 use Rattle.model.specs.Trees.{tree_of}
 use Rattle.bounds.specs.StarvationFreedom.Bounds.{levels}
 use Rattle.bounds_call.proofs.Filling.{largest_next, largest_all}
-use Rattle.bounds_call.proofs.accepted_tree.AcceptedTree.levels.Goals as goal
+use Rattle.bounds_call.proofs.accepted_tree.levels.Goals as goal
 
 pub loop-d-init : goal.loop-d-init
 unfolding largest_below

@@ -4,8 +4,8 @@ use native.Mathlib.Omega.{arith}
 use Rattle.model.specs.Scans.{largest_below}
 use Rattle.model.specs.Trees.{tree_of, is_leaf}
 use Rattle.bounds_call.proofs.Filling.{largest_next, largest_all}
-use Rattle.bounds_call.proofs.accepted_tree.AcceptedTree.largest_member.Goals.{then-is_child, else-is_child}
-use Rattle.bounds_call.proofs.accepted_tree.AcceptedTree.largest_member.Goals as goal
+use Rattle.bounds_call.proofs.accepted_tree.largest_member.Goals.{then-is_child, else-is_child}
+use Rattle.bounds_call.proofs.accepted_tree.largest_member.Goals as goal
 
 pub returns-then-not-has_child : goal.returns-then-not-has_child
 unfolding is_leaf tree_of

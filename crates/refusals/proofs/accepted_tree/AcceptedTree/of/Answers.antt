@@ -2,7 +2,7 @@
 use mathlib.Core.Path.{sym, ap}
 use Rattle.model.specs.Refusals.{Refusal, accepted, refusal}
 use Rattle.model.proofs.Trees.Reading.{few_domains, few_threads}
-use Rattle.bounds_call.proofs.accepted_tree.AcceptedTree.of.Goals as goal
+use Rattle.refusals.proofs.accepted_tree.AcceptedTree.of.Goals as goal
 
 pub invariant_of-result : goal.invariant_of-result
 unfolding accepted refusal

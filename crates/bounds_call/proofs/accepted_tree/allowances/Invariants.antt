@@ -4,7 +4,7 @@ use Prim.Native.Nat.{◌≤◌}
 use lib.ListN.{length}
 use Rattle.model.specs.Trees.{tree_of}
 use Rattle.bounds_call.proofs.Filling.{Filled}
-use Rattle.bounds_call.proofs.accepted_tree.AcceptedTree.allowances.Given as goal
+use Rattle.bounds_call.proofs.accepted_tree.allowances.Given as goal
 
 abbrev pub invariant-loop-d : goal.invariant-loop-d
-invariant-loop-d l = (1 ≤ l.d) × Filled (tree_of l.self.words.now) l.d l.words × (length l.words ≡ 64)
+invariant-loop-d l = (1 ≤ l.d) × Filled (tree_of l.tree.words.now) l.d l.words × (length l.words ≡ 64)
