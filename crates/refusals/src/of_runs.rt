@@ -2,7 +2,7 @@
 ghost use Rattle.std.specs.Prelude.{◌≡◌};
 ghost use Rattle.model.specs.Trees.{tree_of};
 ghost use Rattle.model.specs.WellFormed.{well_formed};
-ghost use Rattle.model.specs.Refusals.{first_refusal, tree_refusal, run_tests_before_19};
+ghost use Rattle.model.specs.Refusals.{first_refusal, run_tests_before_19};
 ghost use Rattle.refusals.specs.Reasons.{refusal_of};
 
 mod counters;
@@ -13,18 +13,18 @@ mod shapes;
 mod states;
 mod unused;
 
+use crate::accepted_tree::AcceptedTree;
 use crate::reasons::{Reason, Refusal};
 use model::{LockState, State, TreeWords};
 
 // Whether a state is well formed: the words of the root, the unused slots, the domains, the threads.
-fn is_well_formed(tree: &TreeWords, words: &State) -> bool
-    requires { (tree_refusal (tree_of tree.now)).number ≡ 0 }
-    ensures { result ≡ well_formed (tree_of tree.now) words.now }
+fn is_well_formed(tree: &AcceptedTree, words: &State) -> bool
+    ensures { result ≡ well_formed (tree_of tree.now.words.now) words.now }
 {
-    let owners = owners::owners_of(tree);
-    states::good_root_at(tree, words)
-        && unused::is_clear(tree, words)
-        && states::good_domains(&owners, tree.domains, words)
+    let owners = owners::owners_of(tree.words);
+    states::good_root_at(tree.words, words)
+        && unused::is_clear(tree.words, words)
+        && states::good_domains(&owners, tree.words.domains, words)
         && states::good_threads(tree, &owners, words)
 }
 
@@ -37,11 +37,11 @@ pub fn lent_refusal_of(
 ) -> Result<(), Refusal>
     ensures { refusal_of result ≡ first_refusal (run_tests_before_19 (tree_of tree.now) state.now schedule.now room) }
 {
-    crate::tree_refusal_of(tree)?;
+    let accepted = AcceptedTree::of(tree)?;
     if !counters::good_counts(tree, &state.counters) {
         return Err(Reason::BadState.at(0));
     }
-    if !is_well_formed(tree, &state.words) {
+    if !is_well_formed(&accepted, &state.words) {
         return Err(Reason::BadState.at(0));
     }
     crate::schedule_refusal_of(tree.threads, schedule, room)

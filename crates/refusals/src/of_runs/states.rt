@@ -7,6 +7,7 @@ ghost use Rattle.model.specs.States.{numbers_at};
 ghost use Rattle.refusals.specs.OfRuns.Tables.{member_in, next_in, tail_and_next_in, peer_in, barred_in, domain_in, ticket_place_in, place_in, root_in, resting_row, RestMarks, HomesThere, used_in};
 ghost use Rattle.refusals.specs.Paths.Records.{own_record_in};
 
+use crate::accepted_tree::AcceptedTree;
 use crate::of_runs::shapes::{CHECK, GRANT, IDLE, RAISE, WAIT, WATCH};
 use crate::of_runs::{marks, places, shapes};
 use model::{PlaceWords, State, TreeWords};
@@ -168,17 +169,16 @@ pub(crate) fn resting_row_of(tree: &TreeWords) -> u8
 
 // The words of a thread: the next of its record, and its place if it is marked.
 fn good_thread_at(
-    tree: &TreeWords,
+    tree: &AcceptedTree,
     owners: &[u8; 320],
     marks: &[u8; 256],
     words: &State,
     i: u16,
 ) -> bool
-    requires accepted { (tree_refusal (tree_of tree.now)).number ≡ 0 }
-    requires thread_there { i < tree.now.threads }
-    requires homes_there { HomesThere tree.now owners.now }
-    requires marks_there { RestMarks tree.now.threads (resting_row (tree_of tree.now)) owners.now words.now.places marks.now }
-    ensures { result ≡ used_in (tree_of tree.now) owners.now words.now.statuses i (numbers_at words.now.places i) (get_or words.now.nexts i 0) }
+    requires thread_there { i < tree.now.words.now.threads }
+    requires homes_there { HomesThere tree.now.words.now owners.now }
+    requires marks_there { RestMarks tree.now.words.now.threads (resting_row (tree_of tree.now.words.now)) owners.now words.now.places marks.now }
+    ensures { result ≡ used_in (tree_of tree.now.words.now) owners.now words.now.statuses i (numbers_at words.now.places i) (get_or words.now.nexts i 0) }
 {
     let at = usize::from(i);
     let home = owners[at];
@@ -189,7 +189,7 @@ fn good_thread_at(
         return true;
     }
     let thread = Thread {
-        tree,
+        tree: tree.words,
         number: i,
         home,
     };
@@ -199,14 +199,13 @@ fn good_thread_at(
 
 // The words of each thread.
 #[tactic(auto, using(crate::proofs::Scanning::one_more, model::proofs::Tests::all_true))]
-pub(crate) fn good_threads(tree: &TreeWords, owners: &[u8; 320], words: &State) -> bool
-    requires accepted { (tree_refusal (tree_of tree.now)).number ≡ 0 }
-    requires homes_there { HomesThere tree.now owners.now }
-    ensures { result ≡ all_below tree.now.threads (λ i. used_in (tree_of tree.now) owners.now words.now.statuses i (numbers_at words.now.places i) (get_or words.now.nexts i 0)) }
+pub(crate) fn good_threads(tree: &AcceptedTree, owners: &[u8; 320], words: &State) -> bool
+    requires { HomesThere tree.now.words.now owners.now }
+    ensures { result ≡ all_below tree.now.words.now.threads (λ i. used_in (tree_of tree.now.words.now) owners.now words.now.statuses i (numbers_at words.now.places i) (get_or words.now.nexts i 0)) }
 {
-    let resting = resting_row_of(tree);
-    let marks = marks::mark_threads(owners, tree.threads, resting, &words.places);
-    for i in 0..tree.threads as u16 {
+    let resting = resting_row_of(tree.words);
+    let marks = marks::mark_threads(owners, tree.words.threads, resting, &words.places);
+    for i in 0..tree.words.threads as u16 {
         if !good_thread_at(tree, owners, &marks, words, i) {
             return false;
         }

@@ -8,7 +8,7 @@ use Rattle.refusals.proofs.of_runs.states.good_thread_at.Goals as goal
 
 pub returns-then-marks-at-eq0 : goal.returns-then-marks-at-eq0
 returns-then-marks-at-eq0 c =
-    let t = tree_of c.args.tree.now in
+    let t = tree_of c.args.tree.now.words.now in
     let i = c.args.i in
     let q = numbers_at c.args.words.now.places i in
     let there = c.requires.thread_there in

@@ -11,4 +11,4 @@ use Rattle.refusals.proofs.of_runs.states.good_threads.Given as goal
 abbrev pub invariant-loop-i : goal.invariant-loop-i
 invariant-loop-i l =
     (j : ℕ) → j < l.i →
-    used_in (tree_of l.tree) l.owners l.words.statuses j (numbers_at l.words.places j) (get_or l.words.nexts j 0) ≡ true
+    used_in (tree_of l.tree.words.now) l.owners l.words.statuses j (numbers_at l.words.places j) (get_or l.words.nexts j 0) ≡ true
