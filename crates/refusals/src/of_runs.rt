@@ -16,6 +16,9 @@ mod unused;
 use crate::reasons::{Reason, Refusal};
 use model::{LockState, State, TreeWords};
 
+// The largest value of a counter, and the largest number of an attempt under way.
+pub const MOST_COUNTED: u64 = 1 << 63;
+
 // Whether a state is well formed: the words of the root, the unused slots, the domains, the threads.
 fn is_well_formed(tree: &TreeWords, words: &State) -> bool
     requires { (tree_refusal (tree_of tree.now)).number ≡ 0 }
