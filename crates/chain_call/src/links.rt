@@ -62,8 +62,8 @@ fn watch_link(v: u64, grant: u16, tickets: &[Option<u16>; 256], threads: u32) ->
     if v == u64::from(grant) {
         return Link::Moves;
     }
-    let before = (v + 65535) % 65536;
-    to(only_with(tickets, threads, before as u16))
+    let before = (v as u16).wrapping_sub(1);
+    to(only_with(tickets, threads, before))
 }
 
 impl Tables {

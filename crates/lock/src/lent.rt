@@ -22,7 +22,7 @@ fn first_reported(homes: &[u8; 256], schedule: &[u16], code: u16) -> TakenStep
     let at = usize::from(schedule[0]);
     TakenStep {
         kind: u32::from(code % 8),
-        domain: run::domain_of_code(homes[at], code),
+        domain: u32::from(run::domain_of_code(u16::from(homes[at]), code)),
     }
 }
 

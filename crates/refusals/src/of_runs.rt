@@ -17,6 +17,9 @@ use crate::accepted_tree::AcceptedTree;
 use crate::reasons::{Reason, Refusal};
 use model::{LockState, State, TreeWords};
 
+// The largest value of a counter, and the largest number of an attempt under way.
+pub const MOST_COUNTED: u64 = 1 << 63;
+
 // Whether a state is well formed: the words of the root, the unused slots, the domains, the threads.
 fn is_well_formed(tree: &AcceptedTree, words: &State) -> bool
     ensures { result ≡ well_formed (tree_of tree.now.words.now) words.now }

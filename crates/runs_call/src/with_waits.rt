@@ -13,11 +13,9 @@ mod tested;
 mod waiting;
 
 use model::{LockState, TreeWords};
+use refusals::of_runs::MOST_COUNTED;
 use refusals::reasons::{Reason, Refusal};
 use waits::{Fraction, WaitsReply};
-
-// The largest number of an attempt under way, 2^63.
-const MOST: u64 = 9223372036854775808;
 
 // The greatest common divisor, by Euclid's algorithm.
 fn greatest_divisor(a: u64, b: u64) -> u64
@@ -72,7 +70,7 @@ pub fn waits_refusal_of(
 fn is_bad_number(threads: u32, at: u32, number: u64) -> bool
     ensures { result ≡ bad_number threads at number }
 {
-    MOST < number || threads <= at && number != 0
+    MOST_COUNTED < number || threads <= at && number != 0
 }
 
 // The lowest index of such a number.

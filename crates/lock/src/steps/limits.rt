@@ -9,12 +9,11 @@ ghost use Rattle.lock.specs.Steps.Counting.{RoomAnswered};
 
 use crate::steps::run;
 use model::{Counters, LockState, TreeWords};
+use refusals::of_runs::MOST_COUNTED;
 use refusals::reasons::{Reason, Refusal};
 
-// The largest value of a counter, 2^63, and the largest value that no schedule can raise above it.
-const MOST: u64 = 9223372036854775808;
-
-const MOST_WITH_ROOM: u64 = 9223372036854710272;
+// The largest value of a counter that no schedule can raise above 2^63.
+const MOST_WITH_ROOM: u64 = MOST_COUNTED - 65536;
 
 // True only if no schedule can raise a counter above 2^63: then no counter is tested during the run. The OR of the counters is at least each of them, and the loop has no early exit, so that the compiler can test many at once.
 fn has_room(counters: &Counters) -> bool
@@ -33,7 +32,9 @@ fn is_above_at(counters: &Counters, d: usize) -> bool
     requires { d < 64 }
     ensures { result ≡ count_above counters.now d }
 {
-    MOST < counters.entries[d] || MOST < counters.tenures[d] || MOST < counters.longest[d]
+    MOST_COUNTED < counters.entries[d]
+        || MOST_COUNTED < counters.tenures[d]
+        || MOST_COUNTED < counters.longest[d]
 }
 
 // Whether some counter is above 2^63.

@@ -68,13 +68,13 @@ fn put_code(codes: &mut [u16], at: usize, kind: Kind, row: u8, domain: u8)
     }
 }
 
-// The domain of a step, given its thread's home and the number that reports the step.
-pub fn domain_of_code(home: u8, code: u16) -> u32
+// The domain of a step, given its thread's home and the number that reports the step. In 16 bits, so that a loop can compare many at once.
+pub fn domain_of_code(home: u16, code: u16) -> u16
     ensures { result ≡ row_domain home ((code / 8) % 16) (code / 128) }
 {
     match (code / 8) % 16 {
-        0 | 5 => u32::from(home),
-        _ => u32::from(code / 128),
+        0 | 5 => home,
+        _ => code / 128,
     }
 }
 

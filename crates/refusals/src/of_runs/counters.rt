@@ -4,10 +4,8 @@ ghost use Rattle.model.specs.Trees.{tree_of};
 ghost use Rattle.model.specs.Counters.{good_count, good_counts};
 ghost use Rattle.refusals.specs.OfRuns.Counts.{zeros_in, count_in};
 
+use crate::of_runs::MOST_COUNTED;
 use model::{Counters, TreeWords};
-
-// The largest value of a counter.
-const MOST: u64 = 1 << 63;
 
 fn are_zeros(entries: u64, tenures: u64, longest: u64) -> bool
     ensures { result ≡ zeros_in entries tenures longest }
@@ -29,7 +27,7 @@ fn count_fits(
     if d == 0 || domains <= d {
         return are_zeros(entries, tenures, longest);
     }
-    entries <= MOST && tenures <= MOST && longest <= u64::from(threshold)
+    entries <= MOST_COUNTED && tenures <= MOST_COUNTED && longest <= u64::from(threshold)
 }
 
 fn good_count_at(tree: &TreeWords, counters: &Counters, d: usize) -> bool

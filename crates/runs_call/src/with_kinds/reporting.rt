@@ -1,26 +1,14 @@
 // The same on a state that the caller keeps: the tests, then the loop, which reports each step as one number, and then two numbers per step.
-ghost use Rattle.std.specs.Prelude.{◌≡◌, ◌*◌, ◌/◌, ◌%◌, ◌≤◌, length, IfOk};
+ghost use Rattle.std.specs.Prelude.{◌≡◌, ◌*◌, ◌≤◌, length, IfOk};
 ghost use Rattle.model.specs.Trees.{tree_of};
 ghost use Rattle.model.specs.Runs.{run};
 ghost use Rattle.refusals.specs.Reasons.{refusal_of};
-ghost use Rattle.rows.specs.Common.Standing.{row_domain};
 ghost use Rattle.kinds.specs.Answers.{kinds_refusal, kinds_answer, kinds_trace, kinds_rows};
 ghost use Rattle.runs_call.specs.WithKinds.Spreading.{ThreadsFit, Spread};
 
 use lock::steps::{limits, run};
 use model::{Counts, LockState, TreeWords};
 use refusals::reasons::{Reason, Refusal};
-
-// The domain of a step, given its thread's home and the number that reports the step.
-// Kept: `domain_of_code` of the run's loop, a crate below, and `domain_by` of journal_call, beside this crate; this one answers in 16 bits.
-fn domain_of(home: u16, code: u16) -> u16
-    ensures { result ≡ row_domain home ((code / 8) % 16) (code / 128) }
-{
-    match (code / 8) % 16 {
-        0 | 5 => home,
-        _ => code / 128,
-    }
-}
 
 // Replaces the numbers that the run's loop reported, at the front of the rows, by two numbers each. It starts at the last step, so that no number is overwritten before it is read.
 fn spread(homes: &[u8; 256], schedule: &[u16], rows: &mut [u16])
@@ -31,7 +19,7 @@ fn spread(homes: &[u8; 256], schedule: &[u16], rows: &mut [u16])
     for k in (0..schedule.len()).rev() {
         let code = rows[k];
         let home = homes[usize::from(schedule[k])];
-        let domain = domain_of(u16::from(home), code);
+        let domain = run::domain_of_code(u16::from(home), code);
         rows[2 * k] = code % 8;
         rows[2 * k + 1] = domain;
     }

@@ -13,9 +13,10 @@ ghost use Rattle.lock.specs.Steps.Running.{kinds_of, counts_by, trace_front};
 ghost use Rattle.runs_call.specs.WithWaits.Waiting.{kinds_added, ticket_home, mark_at, Fits, Countable, Counted, Small, MarksOf, HandedIn, MarksFit};
 
 use model::{LockState, TreeWords};
+use refusals::of_runs::MOST_COUNTED;
 
 // The entries are counted from 2^63 on, so that there is a mark for every number that may be under way before them.
-const FIRST: u64 = 9223372036854775808;
+const FIRST: u64 = MOST_COUNTED;
 
 // What is kept for each thread while attempts are counted: the mark of the attempt under way, how many are finished, the sum of their waits and the longest.
 #[derive(Drop)]

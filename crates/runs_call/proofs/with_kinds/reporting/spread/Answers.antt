@@ -43,7 +43,7 @@ bounds-rows-k-in-loop-k-2 c = omega (arith, c.loop-k.invariant.0, c.loop-k.invar
 pub loop-k-preserved : goal.loop-k-preserved
 loop-k-preserved c = let k = c.loop-k.k in
     let z : k - 1 + 1 ≡ k = omega arith in
-    (omega (arith, c.loop-k.invariant.0), spread_one _ _ _ c.loop-k.rows (k - 1) (omega (arith, c.loop-k.invariant.0)) c.requires.schedule_in_bounds (rw z c.loop-k.invariant.1) _ _ _ c.from.ensures c.from-in-loop-k.ensures c.domain_of-domain.ensures)
+    (omega (arith, c.loop-k.invariant.0), spread_one _ _ _ c.loop-k.rows (k - 1) (omega (arith, c.loop-k.invariant.0)) c.requires.schedule_in_bounds (rw z c.loop-k.invariant.1) _ _ _ c.from.ensures c.from-in-loop-k.ensures c.domain_of_code-domain.ensures)
 
 pub returns : goal.returns
 returns c = let z : c.loop-k.k ≡ 0 = omega arith in
