@@ -45,6 +45,7 @@ fn chain_length(
     }
 }
 
+// Kept: the reply with a number that is 0 for success is the record of the definition `chain_answer`.
 // The chain of a thread at the front of a buffer, whose rest is unchanged; if refused, the whole buffer is unchanged.
 pub fn chain(tree: &TreeWords, state: &LockState, thread: u16, buffer: &mut [u16]) -> ChainReply
     ensures value { result ≡ chain_answer tree.now state.now thread buffer.old }

@@ -1,3 +1,4 @@
 -- What several proofs use.
 pub mod Writing
+pub mod Digits
 pub mod Printing

@@ -1,4 +1,5 @@
 -- What several proofs use.
+pub mod Writers
 pub mod Stored
 pub mod Trees
 pub mod Testing

@@ -5,21 +5,15 @@ ghost use Rattle.lock_file.specs.PrintedListing.Listing.{numeral, number_then, t
 
 use model::Counts;
 
-// Kept: a loop that divides by ten is plainer here and below than an iterator over the quotients.
 // How many digits a numeral has.
 fn digit_count(value: u32) -> usize
     ensures value { result ≡ length (numeral value) }
     ensures upper_bound { result ≤ 10 }
 {
-    let mut rest = value;
-    let mut n = 1;
-    while 10 <= rest {
-        rest /= 10;
-        n += 1;
-    }
-    n
+    value.checked_ilog10().unwrap_or(0) as usize + 1
 }
 
+// Kept: a loop that divides by ten is plainer here than an iterator over the quotients.
 // Writes a numeral at a position, the last digit first, and returns the position after it.
 fn put_numeral(output: &mut [u8], at: usize, value: u32) -> usize
     requires { at + length (numeral value) ≤ length output.old }
@@ -137,11 +131,10 @@ fn trace_fits(trace: &[u16], room: usize) -> bool
 {
     let mut left = room;
     for i in trace {
-        let n = number_length(u32::from(*i));
-        if left < n {
-            return false;
+        match left.checked_sub(number_length(u32::from(*i))) {
+            Some(rest) => left = rest,
+            None => return false,
         }
-        left -= n;
     }
     true
 }

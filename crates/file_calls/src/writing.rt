@@ -30,6 +30,7 @@ fn put_file(tree: &TreeWords, schedule: &[u16], file: &mut [u8]) -> Result<u32, 
     Ok(length as u32)
 }
 
+// Kept: the reply with a number that is 0 for success is the record of the definition `write_answer`.
 // Writes the lock file at the front of a buffer; if refused, the buffer is unchanged.
 pub fn write_file(tree: &TreeWords, schedule: &[u16], file: &mut [u8]) -> WriteReply
     ensures value { result ≡ write_answer tree.now schedule.now file.old }

@@ -1,7 +1,7 @@
 // Cases of document 01's ladder that are executed: what the calls answer, one line each.
 #![tactic(auto)]
 
-use model::{Counters, LockState, RunReply, State, TreeWords};
+use model::{LockState, RunReply, State, TreeWords};
 use std::io;
 
 // Two threads in domain 1 below the root.
@@ -21,24 +21,15 @@ fn two_threads(threshold: u16) -> TreeWords {
     }
 }
 
-// Two domains below the root, with two threads each.
+// The same, and two threads in domain 2 below the root.
 fn four_threads(threshold: u16) -> TreeWords {
-    let mut thresholds = [0u16; 64];
-    thresholds[1] = threshold;
-    thresholds[2] = threshold;
-    let mut homes = [0u8; 256];
-    homes[0] = 1;
-    homes[1] = 1;
-    homes[2] = 2;
-    homes[3] = 2;
-    TreeWords {
-        domains: 3,
-        threads: 4,
-        parents: [0u8; 64],
-        thresholds,
-        homes,
-        ticket_root: 0,
-    }
+    let mut tree = two_threads(threshold);
+    tree.domains = 3;
+    tree.threads = 4;
+    tree.thresholds[2] = threshold;
+    tree.homes[2] = 2;
+    tree.homes[3] = 2;
+    tree
 }
 
 fn fresh(tree: &TreeWords) -> LockState {
@@ -49,11 +40,7 @@ fn fresh(tree: &TreeWords) -> LockState {
 fn uncounted(words: State) -> LockState {
     LockState {
         words,
-        counters: Counters {
-            entries: [0; 64],
-            tenures: [0; 64],
-            longest: [0; 64],
-        },
+        counters: lock::steps::fresh_counters(),
     }
 }
 

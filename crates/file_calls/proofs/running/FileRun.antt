@@ -7,28 +7,31 @@ use native.Mathlib.Omega.{arith}
 use lib.Dec.{eqb}
 use lib.ListN.{length, take, drop, replicate, length-replicate}
 use lib.Seq.{take_at}
-use borrow.Author.Tests.{le-ltb}
+use borrow.Author.Tests.{le-ltb, ne_eqb, eq-eqb}
 use Rattle.model.specs.declared.TreeWords.{TreeWords}
 use Rattle.model.specs.declared.State.{State}
 use Rattle.model.specs.declared.Counters.{Counters}
 use Rattle.model.specs.declared.LockState.{LockState}
-use Rattle.model.specs.Counters.{fresh_lock}
-use Rattle.model.specs.declared.FreshReply.{FreshReply}
-use Rattle.model.specs.declared.RunReply.{RunReply}
+use Rattle.model.specs.declared.Counts.{Counts}
+use Rattle.model.specs.Counters.{lock_state, fresh_counters, fresh_lock}
 use Rattle.model.specs.Trees.{Tree, tree_of}
 use Rattle.model.specs.States.{fresh_words}
 use Rattle.model.specs.Steps.{is_entry}
 use Rattle.model.specs.Runs.{Run, steps, counts_of, run_of, run}
-use Rattle.model.specs.Refusals.{Refusal, lowest_bad, first_refusal, bad_room, tree_tests, run_tests, run_refusal}
-use Rattle.model.specs.Answers.{counters_after_run, fresh_answer, run_accepted, run_refused, run_reply, run_buffer, run_answer, trace_answer}
+use Rattle.model.specs.Refusals.{Refusal, lowest_bad, first_refusal, bad_room, tree_tests, run_tests, refusal, accepted, run_refusal}
+use Rattle.model.specs.Answers.{counters_after_run, run_accepted, run_refused, run_reply, run_buffer, run_answer, trace_answer}
 use Rattle.model.specs.Laws.{CountLaw}
 use Rattle.model.proofs.Tests.{by_test}
 use Rattle.model.proofs.Laws.Runs.{steps_length, count_law}
 use Rattle.model.proofs.Counted.{how_many_most}
 use Rattle.lock_file.specs.Reading.{entries_from, entries_at, filled}
 use Rattle.lock_file.proofs.Positions.{entries_length}
-use Rattle.lock_file.specs.FileAnswers.FileAnswers.{tree_outcome, run_outcome, file_run, file_trace}
-use Rattle.lock_file.proofs.file_answers.FileClaim.{zero_start}
+use Rattle.lock_file.specs.PrintedListing.Listing.{listing}
+use Rattle.lock_file.specs.FileAnswers.FileAnswers.{refused_by, listing_outcome, tree_outcome, run_outcome, file_run, file_trace}
+use Rattle.refusals.specs.declared.reasons.Refusal as reasons
+use Rattle.refusals.specs.Reasons.{number_of}
+use Rattle.refusals.proofs.Refusing.{error_numbered, ok_numbered}
+use Rattle.lock.specs.Steps.Running.{fresh_from}
 
 -- the schedule at the front of its buffer
 pub schedule_front :
@@ -90,25 +93,42 @@ replied_within w is buffer =
     (run_accepted (run (tree_of w) is fresh_words) (counters_after_run (tree_of w) is fresh_lock)) (run_refused (run_refusal (tree_of w) fresh_lock is (length buffer)) fresh_lock)
     (λ e. entries_within (tree_of w) is fresh_words) (λ e. omega arith)
 
--- the state that the code gets from its fresh call
-pub fresh_zero : (w : TreeWords) (r : FreshReply) → r ≡ fresh_answer w 0 → r.state ≡ fresh_lock
-fresh_zero w r e = ap (λ x. x.state) e ∙ zero_start w
+-- the state that the code starts from
+fresh_zero : lock_state (fresh_from 0) fresh_counters ≡ fresh_lock
+unfolding fresh_words
+fresh_zero = refl
 
 -- the contents of the code's buffers together
 pub run_in_buffers :
-    (bs : List ℕ) (at : ℕ) (w : TreeWords) (s : LockState) (r : RunReply) (room_for_schedule schedule buffer trace : List ℕ) →
+    (bs : List ℕ) (at : ℕ) (w : TreeWords) (s : LockState) (room_for_schedule schedule buffer trace : List ℕ) →
     let n = (length bs - at) / 2 in
-    n ≤ length room_for_schedule → n ≤ length buffer → schedule ≡ filled (entries_at bs at) room_for_schedule → s ≡ fresh_lock →
-    r ≡ run_answer w s (take n schedule) buffer → trace ≡ trace_answer w s (take n schedule) buffer →
+    let r = run_answer w s (take n schedule) buffer in
+    length bs ≤ 65536 → (length room_for_schedule ≡ 32768) × (length buffer ≡ 32768) →
+    schedule ≡ filled (entries_at bs at) room_for_schedule → s ≡ lock_state (fresh_from 0) fresh_counters →
+    trace ≡ trace_answer w s (take n schedule) buffer →
     (r.counts.entries ≤ n)
     × ((room : ℕ) →
     run_outcome r (take r.counts.entries trace) room ≡ tree_outcome w (entries_at bs at) room)
 unfolding entries_at
-run_in_buffers bs at w s r free schedule buffer trace h g stored fresh replied traced =
+run_in_buffers bs at w s free schedule buffer trace short rooms stored from_zero traced =
     let n = (length bs - at) / 2 in
     let is = entries_from bs n at in
-    let read : take n schedule ≡ is = rw stored (schedule_front bs n at free h) in
-    let reply : r ≡ run_answer w fresh_lock is buffer = rw (← read, ← fresh) replied in
+    let fresh = from_zero ∙ fresh_zero in
+    let read : take n schedule ≡ is = rw stored (schedule_front bs n at free (omega (arith, short, rooms.0))) in
     let left : trace ≡ trace_answer w fresh_lock is buffer = rw (← read, ← fresh) traced in
     let long = entries_length bs n at in
-    (rw reply (omega (arith, replied_within w is buffer)), λ room. rw (reply, left) (run_listed w is buffer room (omega arith)))
+    rw (fresh, read, left) (omega (arith, replied_within w is buffer), λ room. run_listed w is buffer room (omega (arith, short, rooms.1)))
+
+-- the outcome of a run that is refused, and of one that is not
+module _ (w : TreeWords) (s : LockState) (is b trace : List ℕ) (room : ℕ) where
+  pub run_refuses :
+      (x : reasons.Refusal) → refusal (number_of x.reason) x.place ≡ run_refusal (tree_of w) s is (length b) →
+      run_outcome (run_answer w s is b) trace room ≡ refused_by (refusal (number_of x.reason) x.place)
+  unfolding run_outcome run_answer run_reply refusal
+  run_refuses x e = let p = ne_eqb (run_refusal (tree_of w) s is (length b)).number 0 (error_numbered x e) in rw (p, p, e) refl
+
+  pub run_lists :
+      accepted ≡ run_refusal (tree_of w) s is (length b) → (counts : Counts) → counts ≡ (run_answer w s is b).counts →
+      run_outcome (run_answer w s is b) (take (run_answer w s is b).counts.entries trace) room ≡ listing_outcome (listing counts (take counts.entries trace)) room
+  unfolding run_outcome run_answer run_reply
+  run_lists e counts f = let p = eq-eqb (run_refusal (tree_of w) s is (length b)).number 0 (ok_numbered e) in rw (f, p) refl

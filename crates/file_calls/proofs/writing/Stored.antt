@@ -1,12 +1,11 @@
 -- A written file, one entry at a time: the next entry and those after it, or none.
-use mathlib.Core.Path.{◌≡◌}
+use mathlib.Core.Path.{◌≡◌, refl}
 use mathlib.Core.List.{List, [], ◌++◌}
 use Prim.Native.Nat.{ℕ, suc, ◌+◌, ◌-◌, ◌≤◌, ◌<◌}
 use native.Mathlib.Omega.{arith}
 use native.Mathlib.Numerals.{add-one}
-use lib.ListN.{length, drop, get_or, drop_of_length-le, length-append}
-use lib.Seq.{sets, drop-cons}
-use Rattle.model.proofs.Storing.{sets_append}
+use lib.ListN.{length, drop, get_or, drop_of_length-le}
+use lib.Seq.{drop-cons}
 use Rattle.lock_file.specs.FileWriter.Writing.{low_first_bytes, written_domain, written_domains, written_thread, written_threads, written_schedule}
 
 module _ (parent threshold : ℕ → ℕ) (n d : ℕ) where
@@ -38,24 +37,13 @@ pub schedule_over : (is : List ℕ) (k : ℕ) → length is ≤ k → written_sc
 unfolding written_schedule
 schedule_over is k h = rw (drop_of_length-le is h)
 
--- an entry, and those after it
+-- an entry as the code reads it, and those after it
 pub thread_stored :
-    (home : ℕ → ℕ) (n i b h : ℕ) → i < n → home i ≡ h → (l : List ℕ) (at : ℕ) →
-    (length (written_threads home (n - i) i b) ≡ length (written_thread b h) + length (written_threads home (n - (i + 1)) (i + 1) h))
-    × (sets l at (written_threads home (n - i) i b)
-    ≡ sets (sets l at (written_thread b h)) (at + length (written_thread b h)) (written_threads home (n - (i + 1)) (i + 1) h))
-thread_stored home n i b h q e l at =
-    rw (threads_next home n i b q, e) (length-append (written_thread b h) (written_threads home (n - (i + 1)) (i + 1) h), sets_append l at (written_thread b h) (written_threads home (n - (i + 1)) (i + 1) h))
+    (home : ℕ → ℕ) (n i b h : ℕ) → i < n → home i ≡ h →
+    written_threads home (n - i) i b ≡ written_thread b h ++ written_threads home (n - (i + 1)) (i + 1) h
+thread_stored home n i b h q e = rw (threads_next home n i b q, e) refl
 
 pub domain_stored :
-    (parent threshold : ℕ → ℕ) (n d p h : ℕ) → d < n → parent d ≡ p → threshold d ≡ h → (l : List ℕ) (at : ℕ) →
-    (length (written_domains parent threshold (n - d) d) ≡ length (written_domain p h) + length (written_domains parent threshold (n - (d + 1)) (d + 1)))
-    × (sets l at (written_domains parent threshold (n - d) d)
-    ≡ sets (sets l at (written_domain p h)) (at + length (written_domain p h)) (written_domains parent threshold (n - (d + 1)) (d + 1)))
-domain_stored parent threshold n d p h q e f l at =
-    rw (domains_next parent threshold n d q, e, f) (length-append (written_domain p h) (written_domains parent threshold (n - (d + 1)) (d + 1)), sets_append l at (written_domain p h) (written_domains parent threshold (n - (d + 1)) (d + 1)))
-
-pub entry_stored :
-    (is : List ℕ) (k : ℕ) → k < length is → (l : List ℕ) (at : ℕ) →
-    sets l at (written_schedule (drop k is)) ≡ sets (sets l at (low_first_bytes (get_or is k 0))) (at + 2) (written_schedule (drop (k + 1) is))
-entry_stored is k q l at = rw (schedule_next is k q) (sets_append l at (low_first_bytes (get_or is k 0)) (written_schedule (drop (k + 1) is)))
+    (parent threshold : ℕ → ℕ) (n d p h : ℕ) → d < n → parent d ≡ p → threshold d ≡ h →
+    written_domains parent threshold (n - d) d ≡ written_domain p h ++ written_domains parent threshold (n - (d + 1)) (d + 1)
+domain_stored parent threshold n d p h q e f = rw (domains_next parent threshold n d q, e, f) refl

@@ -1,13 +1,7 @@
--- `file_calls::printing::digit_count` meets its contract: a division by ten removes one digit.
-use native.Mathlib.Omega.{arith}
-use Rattle.lock_file.proofs.printed_listing.Numerals.{length_small, length_large, length_word}
+-- By the logarithm to the base ten.
+use Rattle.std.proofs.Common.{ap, ◌∙◌, ◌+◌}
+use Rattle.file_calls.proofs.printing.Digits.{length_logarithm}
 use Rattle.file_calls.proofs.printing.digit_count.Goals as goal
 
-pub loop-rest-init : goal.loop-rest-init
-loop-rest-init c = (omega arith, omega arith)
-
-pub loop-rest-preserved : goal.loop-rest-preserved
-loop-rest-preserved c = (omega (arith, length_large c.loop-rest.rest c.loop-rest-test.true), omega arith)
-
-pub returns : goal.returns
-returns c = record { value = omega (arith, length_small c.loop-rest.rest c.loop-rest-test.false); upper_bound = omega (arith, length_small c.loop-rest.rest c.loop-rest-test.false, length_word c.args.value (omega arith)) }
+pub returns-clause-value : goal.returns-clause-value
+returns-clause-value c = ap (λ n. n + 1) c.unwrap_or.ensures ∙ length_logarithm c.args.value c.checked_ilog10.result c.checked_ilog10.ensures.none c.checked_ilog10.ensures.power_le c.checked_ilog10.ensures.next_power_gt

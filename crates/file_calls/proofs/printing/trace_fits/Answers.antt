@@ -5,19 +5,19 @@ use Rattle.lock_file.specs.PrintedListing.Listing.{numeral, trace_lines}
 use Rattle.lock_file.proofs.printed_listing.Numerals.{trace_length_next, trace_lines_over}
 use Rattle.file_calls.proofs.printing.trace_fits.Goals as goal
 
-pub returns-then-left-n : goal.returns-then-left-n
-returns-then-left-n c =
+pub returns-in-None : goal.returns-in-None
+returns-in-None c =
     let is = c.args.trace.now in
     let next = trace_length_next is c.loop-i.i-index c.loop-i-test.true in
     let long = ap (λ v. length (numeral v)) c.from.ensures in
-    let more : c.args.room < length (trace_lines is) = omega (arith, c.number_length-n.ensures.value) in
+    let more : c.args.room < length (trace_lines is) = omega (arith, c.number_length.ensures.value, c.in-None.ensures) in
     sym (lt-leb _ _ more)
 
 pub loop-i-preserved : goal.loop-i-preserved
 loop-i-preserved c =
     let next = trace_length_next c.args.trace.now c.loop-i.i-index c.loop-i-test.true in
     let long = ap (λ v. length (numeral v)) c.from.ensures in
-    (omega arith, omega (arith, c.number_length-n.ensures.value))
+    (omega (arith, c.in-Some.ensures.0, c.in-Some.ensures.1), omega (arith, c.number_length.ensures.value, c.in-Some.ensures.0, c.in-Some.ensures.1))
 
 pub returns : goal.returns
 returns c =

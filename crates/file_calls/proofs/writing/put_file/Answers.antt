@@ -1,5 +1,5 @@
 -- `file_calls::writing::put_file` meets its contract: the tests of the tree, the schedule, the file's length and the buffer's length; then the tree is written, and the schedule after it.
-use mathlib.Core.Path.{◌≡◌, sym, ap, ◌∙◌}
+use mathlib.Core.Path.{ap, ◌∙◌}
 use Prim.Native.Nat.{◌≤◌, ◌<◌}
 use native.Mathlib.Omega.{arith}
 use lib.ListN.{length}
