@@ -12,7 +12,7 @@ ghost use Rattle.journal.specs.Answers.{journal_refusal};
 
 use crate::reader::Reader;
 use model::{LockState, TreeWords};
-use refusals::reasons::Reason;
+use refusals::reasons::{Reason, Refusal};
 
 // Kept: alike in `step_check::comparison` for 16-bit numbers; a generic contract would speak of a conversion by a bound, in place of a number.
 // Whether all entries name the kinds that the run's loop reported. It looks at all of them, so that the compiler can compare many at once.
@@ -76,6 +76,17 @@ struct Buffers {
 pub(crate) struct Refused {
     pub reason: Reason,
     pub place: usize,
+}
+
+impl From<Refusal> for Refused {
+    ghost from_gives = { λ r e. e ≡ record { reason = r.reason; place = r.place } };
+
+    fn from(refusal: Refusal) -> Refused {
+        Refused {
+            reason: refusal.reason,
+            place: refusal.place as usize,
+        }
+    }
 }
 
 // The piece of a journal at the reader: its entries are read, their threads stepped, their kinds compared; the reader moves on past them.
@@ -155,11 +166,6 @@ fn check_entries(tree: &TreeWords, journal: &[u8]) -> Result<(), Refused>
 pub(crate) fn refusal_of(tree: &TreeWords, journal: &[u8]) -> Result<(), Refused>
     ensures { refused_by result ≡ journal_refusal tree.now journal.now }
 {
-    if let Err(refusal) = refusals::tree_refusal_of(tree) {
-        return Err(Refused {
-            reason: refusal.reason,
-            place: refusal.place as usize,
-        });
-    }
+    refusals::tree_refusal_of(tree)?;
     check_entries(tree, journal)
 }
