@@ -101,9 +101,7 @@ fn check_piece(
     ensures turned { Turned tree.now reader.old.journal.now reader.old.position result state.new.words reader.new.position reader.new.before }
 {
     let piece = crate::pieces::read_piece(
-        reader.journal,
-        reader.position,
-        reader.before,
+        reader,
         tree.threads,
         &mut buffers.threads,
         &mut buffers.kinds,
@@ -116,12 +114,7 @@ fn check_piece(
         &mut buffers.codes,
     );
     if let Some(same) = first_other_kind(&buffers.kinds, &buffers.codes, piece.count) {
-        let place = crate::reader::position_after(
-            reader.journal,
-            reader.position,
-            reader.before,
-            same,
-        );
+        let place = crate::reader::position_after(reader, same);
         return Err(Refused {
             reason: Reason::OtherKind,
             place,

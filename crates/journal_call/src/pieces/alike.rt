@@ -4,7 +4,7 @@ ghost use Rattle.std.proofs.lemmas.List.Edits.{sets};
 ghost use Rattle.journal_call.specs.Reader.Stretches.{ReadOn};
 ghost use Rattle.journal_call.specs.Pieces.Pieces.{AllAre, AllBelow, Fits, KindsGiven};
 
-use crate::reader::{Piece, stopped, two_bytes};
+use crate::reader::{Piece, Reader, stopped, two_bytes};
 
 // Whether four bytes are the same bit map, by a single comparison: separate comparisons would be unpredictable branches.
 fn all_are(bits: u8, four: [u8; 4]) -> bool
@@ -32,18 +32,21 @@ fn put_four<T: Copy>(elements: &mut [T], from: usize, a: T, b: T, c: T, d: T)
 
 // Four entries of the thread before that name a kind, or four of it that do not.
 fn read_same(
-    journal: &[u8],
-    position: usize,
-    before: u16,
+    reader: &Reader,
     known: u32,
     threads: &mut [u16],
     kinds: &mut [u8],
     count: usize,
 ) -> Piece
-    requires fits { Fits 12 4 (length journal.now) position (length threads.old) (length kinds.old) count }
-    requires before_lt_known { before < known }
-    ensures { ReadOn known journal.now position before threads.old kinds.old count threads.new kinds.new result.count result.position result.before }
+    requires fits { Fits 12 4 (length reader.now.journal.now) reader.now.position (length threads.old) (length kinds.old) count }
+    requires before_lt_known { reader.now.before < known }
+    ensures { ReadOn known reader.now.journal.now reader.now.position reader.now.before threads.old kinds.old count threads.new kinds.new result.count result.position result.before }
 {
+    let Reader {
+        journal,
+        position,
+        before,
+    } = *reader;
     if all_are(
         2,
         [
@@ -79,17 +82,20 @@ fn read_same(
 
 // Four entries that name threads and no kind.
 fn read_others(
-    journal: &[u8],
-    position: usize,
-    before: u16,
+    reader: &Reader,
     known: u32,
     threads: &mut [u16],
     kinds: &mut [u8],
     count: usize,
 ) -> Piece
-    requires { Fits 12 4 (length journal.now) position (length threads.old) (length kinds.old) count }
-    ensures { ReadOn known journal.now position before threads.old kinds.old count threads.new kinds.new result.count result.position result.before }
+    requires { Fits 12 4 (length reader.now.journal.now) reader.now.position (length threads.old) (length kinds.old) count }
+    ensures { ReadOn known reader.now.journal.now reader.now.position reader.now.before threads.old kinds.old count threads.new kinds.new result.count result.position result.before }
 {
+    let Reader {
+        journal,
+        position,
+        before,
+    } = *reader;
     if all_are(
         1,
         [
@@ -127,18 +133,21 @@ fn kinds_given(journal: &[u8], position: usize) -> bool
 
 // Sixteen entries of the thread before that name a kind, as when it moves alone; else none.
 fn read_sixteen(
-    journal: &[u8],
-    position: usize,
-    before: u16,
+    reader: &Reader,
     known: u32,
     threads: &mut [u16],
     kinds: &mut [u8],
     count: usize,
 ) -> Piece
-    requires fits { Fits 34 16 (length journal.now) position (length threads.old) (length kinds.old) count }
-    requires before_lt_known { before < known }
-    ensures { ReadOn known journal.now position before threads.old kinds.old count threads.new kinds.new result.count result.position result.before }
+    requires fits { Fits 34 16 (length reader.now.journal.now) reader.now.position (length threads.old) (length kinds.old) count }
+    requires before_lt_known { reader.now.before < known }
+    ensures { ReadOn known reader.now.journal.now reader.now.position reader.now.before threads.old kinds.old count threads.new kinds.new result.count result.position result.before }
 {
+    let Reader {
+        journal,
+        position,
+        before,
+    } = *reader;
     if !kinds_given(journal, position) {
         return stopped(count, position, before, None);
     }
@@ -151,9 +160,7 @@ fn read_sixteen(
 
 // Four such entries, stored from an index on, or none.
 fn read_four(
-    journal: &[u8],
-    position: usize,
-    before: u16,
+    reader: &Reader,
     known: u32,
     threads: &mut [u16],
     kinds: &mut [u8],
@@ -161,30 +168,28 @@ fn read_four(
 ) -> Piece
     requires count_in_bounds { count ≤ length threads.old }
     requires count_in_bounds_2 { count ≤ length kinds.old }
-    ensures { ReadOn known journal.now position before threads.old kinds.old count threads.new kinds.new result.count result.position result.before }
+    ensures { ReadOn known reader.now.journal.now reader.now.position reader.now.before threads.old kinds.old count threads.new kinds.new result.count result.position result.before }
 {
-    if known <= u32::from(before) {
-        return stopped(count, position, before, None);
+    if known <= u32::from(reader.before) {
+        return stopped(count, reader.position, reader.before, None);
     }
     // Twelve bytes are enough for four entries of each bit map that is tested.
-    if 12 <= journal.len().saturating_sub(position)
+    if 12 <= reader.journal.len().saturating_sub(reader.position)
         && 4 <= threads.len() - count
         && 4 <= kinds.len() - count
     {
-        let same = read_same(journal, position, before, known, threads, kinds, count);
+        let same = read_same(reader, known, threads, kinds, count);
         if count < same.count {
             return same;
         }
-        return read_others(journal, position, before, known, threads, kinds, count);
+        return read_others(reader, known, threads, kinds, count);
     }
-    stopped(count, position, before, None)
+    stopped(count, reader.position, reader.before, None)
 }
 
 // Sixteen such entries if enough bytes and elements are left, or none.
 fn read_many(
-    journal: &[u8],
-    position: usize,
-    before: u16,
+    reader: &Reader,
     known: u32,
     threads: &mut [u16],
     kinds: &mut [u8],
@@ -192,26 +197,24 @@ fn read_many(
 ) -> Piece
     requires count_in_bounds { count ≤ length threads.old }
     requires count_in_bounds_2 { count ≤ length kinds.old }
-    ensures { ReadOn known journal.now position before threads.old kinds.old count threads.new kinds.new result.count result.position result.before }
+    ensures { ReadOn known reader.now.journal.now reader.now.position reader.now.before threads.old kinds.old count threads.new kinds.new result.count result.position result.before }
 {
-    if known <= u32::from(before) {
-        return stopped(count, position, before, None);
+    if known <= u32::from(reader.before) {
+        return stopped(count, reader.position, reader.before, None);
     }
     // Thirty-four bytes are enough for sixteen entries of two bytes and two more bytes, so that the last can be read like any entry.
-    if 34 <= journal.len().saturating_sub(position)
+    if 34 <= reader.journal.len().saturating_sub(reader.position)
         && 16 <= threads.len() - count
         && 16 <= kinds.len() - count
     {
-        return read_sixteen(journal, position, before, known, threads, kinds, count);
+        return read_sixteen(reader, known, threads, kinds, count);
     }
-    stopped(count, position, before, None)
+    stopped(count, reader.position, reader.before, None)
 }
 
 // Sixteen or four entries with the same bit map, stored from an index on, or none. Four are read at only one place, so that the compiler inlines it there.
 pub(crate) fn read_alike(
-    journal: &[u8],
-    position: usize,
-    before: u16,
+    reader: &Reader,
     known: u32,
     threads: &mut [u16],
     kinds: &mut [u8],
@@ -219,11 +222,11 @@ pub(crate) fn read_alike(
 ) -> Piece
     requires count_in_bounds { count ≤ length threads.old }
     requires count_in_bounds_2 { count ≤ length kinds.old }
-    ensures { ReadOn known journal.now position before threads.old kinds.old count threads.new kinds.new result.count result.position result.before }
+    ensures { ReadOn known reader.now.journal.now reader.now.position reader.now.before threads.old kinds.old count threads.new kinds.new result.count result.position result.before }
 {
-    let many = read_many(journal, position, before, known, threads, kinds, count);
+    let many = read_many(reader, known, threads, kinds, count);
     if count < many.count {
         return many;
     }
-    read_four(journal, position, before, known, threads, kinds, count)
+    read_four(reader, known, threads, kinds, count)
 }
