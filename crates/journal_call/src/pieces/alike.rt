@@ -158,7 +158,27 @@ fn read_sixteen(
     stopped(count + 16, position + 32, before, None)
 }
 
-// Four such entries, stored from an index on, or none.
+// Whether the thread before is known, and enough bytes and elements are left for a number of entries.
+fn fits<const BYTES: usize, const ENTRIES: usize>(
+    reader: &Reader,
+    known: u32,
+    threads: &[u16],
+    kinds: &[u8],
+    count: usize,
+) -> bool
+    requires bytes_nonzero { 0 < BYTES }
+    requires count_in_bounds { count ≤ length threads.now }
+    requires count_in_bounds_2 { count ≤ length kinds.now }
+    ensures before_lt_known { result ≡ true → reader.now.before < known }
+    ensures fits { result ≡ true → Fits BYTES ENTRIES (length reader.now.journal.now) reader.now.position (length threads.now) (length kinds.now) count }
+{
+    u32::from(reader.before) < known
+        && BYTES <= reader.journal.len().saturating_sub(reader.position)
+        && ENTRIES <= threads.len() - count
+        && ENTRIES <= kinds.len() - count
+}
+
+// Four such entries, stored from an index on, or none. Twelve bytes are enough for four entries of each bit map that is tested.
 fn read_four(
     reader: &Reader,
     known: u32,
@@ -170,24 +190,17 @@ fn read_four(
     requires count_in_bounds_2 { count ≤ length kinds.old }
     ensures { ReadOn known reader.now.journal.now reader.now.position reader.now.before threads.old kinds.old count threads.new kinds.new result.count result.position result.before }
 {
-    if known <= u32::from(reader.before) {
+    if !fits::<12, 4>(reader, known, threads, kinds, count) {
         return stopped(count, reader.position, reader.before, None);
     }
-    // Twelve bytes are enough for four entries of each bit map that is tested.
-    if 12 <= reader.journal.len().saturating_sub(reader.position)
-        && 4 <= threads.len() - count
-        && 4 <= kinds.len() - count
-    {
-        let same = read_same(reader, known, threads, kinds, count);
-        if count < same.count {
-            return same;
-        }
-        return read_others(reader, known, threads, kinds, count);
+    let same = read_same(reader, known, threads, kinds, count);
+    if count < same.count {
+        return same;
     }
-    stopped(count, reader.position, reader.before, None)
+    read_others(reader, known, threads, kinds, count)
 }
 
-// Sixteen such entries if enough bytes and elements are left, or none.
+// Sixteen such entries if enough bytes and elements are left, or none. Thirty-four bytes are enough for sixteen entries of two bytes and two more bytes, so that the last can be read like any entry.
 fn read_many(
     reader: &Reader,
     known: u32,
@@ -199,17 +212,10 @@ fn read_many(
     requires count_in_bounds_2 { count ≤ length kinds.old }
     ensures { ReadOn known reader.now.journal.now reader.now.position reader.now.before threads.old kinds.old count threads.new kinds.new result.count result.position result.before }
 {
-    if known <= u32::from(reader.before) {
+    if !fits::<34, 16>(reader, known, threads, kinds, count) {
         return stopped(count, reader.position, reader.before, None);
     }
-    // Thirty-four bytes are enough for sixteen entries of two bytes and two more bytes, so that the last can be read like any entry.
-    if 34 <= reader.journal.len().saturating_sub(reader.position)
-        && 16 <= threads.len() - count
-        && 16 <= kinds.len() - count
-    {
-        return read_sixteen(reader, known, threads, kinds, count);
-    }
-    stopped(count, reader.position, reader.before, None)
+    read_sixteen(reader, known, threads, kinds, count)
 }
 
 // Sixteen or four entries with the same bit map, stored from an index on, or none. Four are read at only one place, so that the compiler inlines it there.
