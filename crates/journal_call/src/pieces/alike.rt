@@ -1,5 +1,5 @@
 // Four entries at a time, if four in a row have the same bit map: one thread alone, a thread that waits, threads that wait in turn. Their sizes are then known in advance, so that reading one does not depend on the one before.
-ghost use Rattle.std.specs.Prelude.{◌≡◌, true, [], ◌∷◌, ◌+◌, ◌*◌, ◌≤◌, ◌<◌, length};
+ghost use Rattle.std.specs.Prelude.{◌≡◌, true, [], ◌∷◌, ◌+◌, ◌*◌, ◌≤◌, ◌<◌, length, get_or};
 ghost use Rattle.std.proofs.lemmas.List.Edits.{sets};
 ghost use Rattle.journal_call.specs.Reader.Stretches.{ReadOn};
 ghost use Rattle.journal_call.specs.Pieces.Pieces.{AllAre, AllBelow, Fits, KindsGiven};
@@ -11,6 +11,20 @@ fn all_are(bits: u8, four: [u8; 4]) -> bool
     ensures { result ≡ true → AllAre bits four }
 {
     u32::from_le_bytes(four) == u32::from_le_bytes([bits; 4])
+}
+
+// Four bytes from a position on, each a number of bytes after the one before.
+fn four_at<const STRIDE: usize>(journal: &[u8], position: usize) -> [u8; 4]
+    requires stride_bound { STRIDE ≤ 3 }
+    requires position_in_bounds { position + 3 * STRIDE < length journal.now }
+    ensures { result ≡ get_or journal.now position 0 ∷ get_or journal.now (position + STRIDE) 0 ∷ get_or journal.now (position + 2 * STRIDE) 0 ∷ get_or journal.now (position + 3 * STRIDE) 0 ∷ [] }
+{
+    [
+        journal[position],
+        journal[position + STRIDE],
+        journal[position + 2 * STRIDE],
+        journal[position + 3 * STRIDE],
+    ]
 }
 
 fn all_known(known: u32, threads: [u16; 4]) -> bool
@@ -30,6 +44,7 @@ fn put_four<T: Copy>(elements: &mut [T], from: usize, a: T, b: T, c: T, d: T)
     elements[from + 3] = d;
 }
 
+// Kept: here and in `reader` two arrays and an index go to each function: a struct of two mutable borrows would be built again for each call, and the contracts would still name both arrays.
 // Four entries of the thread before that name a kind, or four of it that do not.
 fn read_same(
     reader: &Reader,
@@ -47,15 +62,8 @@ fn read_same(
         position,
         before,
     } = *reader;
-    if all_are(
-        2,
-        [
-            journal[position],
-            journal[position + 2],
-            journal[position + 4],
-            journal[position + 6],
-        ],
-    ) {
+    if all_are(2, four_at::<2>(journal, position)) {
+        // Kept: four reads, since `four_at` from the next byte would give an array that is taken apart again.
         let a = journal[position + 1];
         let b = journal[position + 3];
         let c = journal[position + 5];
@@ -64,15 +72,7 @@ fn read_same(
         put_four(kinds, count, a, b, c, d);
         return stopped(count + 4, position + 8, before, None);
     }
-    if all_are(
-        0,
-        [
-            journal[position],
-            journal[position + 1],
-            journal[position + 2],
-            journal[position + 3],
-        ],
-    ) {
+    if all_are(0, four_at::<1>(journal, position)) {
         put_four(threads, count, before, before, before, before);
         put_four(kinds, count, 0, 0, 0, 0);
         return stopped(count + 4, position + 4, before, None);
@@ -96,15 +96,7 @@ fn read_others(
         position,
         before,
     } = *reader;
-    if all_are(
-        1,
-        [
-            journal[position],
-            journal[position + 3],
-            journal[position + 6],
-            journal[position + 9],
-        ],
-    ) {
+    if all_are(1, four_at::<3>(journal, position)) {
         let a = two_bytes(journal[position + 1], journal[position + 2]);
         let b = two_bytes(journal[position + 4], journal[position + 5]);
         let c = two_bytes(journal[position + 7], journal[position + 8]);

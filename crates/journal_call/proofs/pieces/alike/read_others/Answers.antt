@@ -6,7 +6,7 @@ use Rattle.journal_call.proofs.pieces.alike.read_others.Goals as goal
 
 pub returns-then-all_known : goal.returns-then-all_known
 returns-then-all_known c = let a = c.args in
-    let same = c.all_are.ensures c.if-all_are.true in
+    let same = rw c.four_at.ensures at (c.all_are.ensures c.if-all_are.true) in
     let first = c.two_bytes-a.ensures in
     let second = c.two_bytes-b.ensures in
     let third = c.two_bytes-c.ensures in
