@@ -1,9 +1,12 @@
 -- The check of a journal piece by piece: the state so far, the entries left, and the result of a piece.
 use mathlib.Core.Path.{◌≡◌, sym, ap, ◌∙◌, subst}
-use Rattle.std.specs.Prelude.{Some}
+use Rattle.std.specs.Prelude.{Some, None, Result}
+use Rattle.std.proofs.lemmas.Bool.{cases_lt}
+use Rattle.std.specs.Result.{IsErrAnd}
+use Rattle.std.proofs.lemmas.Result.{err_from_is_err_and}
 use mathlib.Core.List.{List, [], ◌∷◌}
-use mathlib.Core.Logic.{◌≢◌}
-use Prim.Native.Nat.{ℕ, zero, suc, ◌+◌, ◌%◌, ◌≤◌, ◌<◌}
+use mathlib.Core.Logic.{◌≢◌, inl, inr}
+use Prim.Native.Nat.{ℕ, zero, suc, ◌%◌, ◌≤◌, ◌<◌}
 use native.Mathlib.Omega.{arith}
 use lib.ListN.{length, get_or, take}
 use lib.Seq.{length-take-le, get_or-take}
@@ -33,12 +36,13 @@ use Rattle.refusals.proofs.Refusing.{reason_numbered}
 use Rattle.journal_call.specs.declared.reader.Piece.{Piece}
 use Rattle.journal_call.specs.Reader.Stretches.{position_after, Stretch, Stops}
 use Rattle.journal_call.specs.Pieces.Pieces.{PieceRead}
-use Rattle.journal.specs.Answers.{fresh_lock, checked, journal_refusal, replied, journal_answer}
+use Rattle.journal.specs.Answers.{fresh_lock, checked, journal_refusal}
 use Rattle.journal.specs.Laws.{kind_numbers}
 use Rattle.journal_call.proofs.Stepping.{stretch_threads, stretch_moves, SameKinds, goes_on, stops_here, stopped_by, ended}
 use Rattle.lock.specs.Steps.Running.{codes_front, fresh_from}
 use Rattle.journal_call.specs.Kinds.{other_kind}
-use Rattle.journal_call.specs.Journals.{SoFar}
+use Rattle.journal_call.specs.declared.journals.Refused.{Refused}
+use Rattle.journal_call.specs.Journals.{SoFar, refused_by}
 use Rattle.lock.proofs.steps.Starting.{fresh_from_zero}
 use Rattle.lock.proofs.steps.StepCodes.{code_kind}
 
@@ -50,18 +54,22 @@ kind_of_code [] (x ∷ xs) j h f = absurd (omega arith)
 kind_of_code (c ∷ b) (x ∷ xs) zero h f = code_kind x
 kind_of_code (c ∷ b) (x ∷ xs) (suc j) h f = kind_of_code b xs j (omega arith) (omega arith)
 
+-- WHAT `?` passes on
+pub refusal_passed : {A : Type 0} (r : Result A Refused) (x : Refused) {m : Refusal} → IsErrAnd r (λ y. y ≡ x) → refusal (number_of x.reason) x.place ≡ m → refused_by r ≡ m
+refusal_passed r x h e = let y = err_from_is_err_and r h in rw (y.1, y.2) e
+
 module _ (w : TreeWords) (bs : List ℕ) where
   abbrev t : Tree
   t = tree_of w
 
   -- the answer of a check that has come this far
-  answers : (tree_refusal t).number ≡ 0 → (s : State) (p b : ℕ) → SoFar w bs s p b → (r : Refusal) → checked (length bs) t s bs p b ≡ r → replied r ≡ journal_answer w bs
-  unfolding journal_answer journal_refusal
-  answers ok s p b g r e = rw (eq-eqb (tree_refusal t).number 0 ok) (ap replied (sym e ∙ g.ahead))
+  answers : (tree_refusal t).number ≡ 0 → (s : State) (p b : ℕ) → SoFar w bs s p b → (r : Refusal) → checked (length bs) t s bs p b ≡ r → r ≡ journal_refusal w bs
+  unfolding journal_refusal
+  answers ok s p b g r e = rw (eq-eqb (tree_refusal t).number 0 ok) (sym e ∙ g.ahead)
 
   -- the answer if the tests of the tree refuse it
-  pub tree_refused : (x : refusals.Refusal) → refusal (number_of x.reason) x.place ≡ tree_refusal t → record { number = number_of x.reason; place = x.place } ≡ journal_answer w bs
-  unfolding journal_answer journal_refusal refusal
+  pub tree_refused : (x : refusals.Refusal) → refusal (number_of x.reason) x.place ≡ tree_refusal t → refusal (number_of x.reason) x.place ≡ journal_refusal w bs
+  unfolding journal_refusal refusal
   tree_refused x e = rw (sym e, ne_eqb (number_of x.reason) 0 (reason_numbered x.reason))
 
   module _ (ok : (tree_refusal t).number ≡ 0) where
@@ -78,6 +86,11 @@ module _ (w : TreeWords) (bs : List ℕ) where
           formed = subst (λ x. Formed t x) (fresh_at_zero t ∙ sym z) ((form_law t (sixteen_bit w) ok).of_fresh 0);
           ahead = ap (λ x. checked (length bs) t x bs 0 0) (z ∙ sym fresh_is);
         }
+
+    -- the end of the journal
+    pub ends : (s : State) (p b : ℕ) → SoFar w bs s p b → length bs ≤ p → accepted ≡ journal_refusal w bs
+    unfolding accepted
+    ends s p b g n = answers ok s p b g accepted (ended t bs s p b n)
 
     -- A PIECE: its threads and its kinds
     module _ (s : State) (p b : ℕ) (g : SoFar w bs s p b) (threads kinds : List ℕ) (c : Piece) (r : PieceRead w.threads bs p b threads kinds c) where
@@ -102,8 +115,13 @@ module _ (w : TreeWords) (bs : List ℕ) where
           (record { tree = ok; form = g.formed.form; counts = (counter_form_law t ok (sixteen_bit w)).of_fresh; short = omega (arith, long); threads = stretch_threads t read; fits = omega (arith, long) }))
           ∙ accepted_number
 
-      pub moves : p + c.count ≤ c.position
-      moves = omega (arith, stretch_moves read, long)
+      -- no piece is empty while a byte is left
+      pub further : c.refused ≡ None → (room : ℕ) → 0 < room → room ≤ length threads → room ≤ length kinds → p < length bs → p < c.position
+      further none room some fit fit' left =
+          elim (cases_lt c.position (length bs)) [
+            | inl more ↦ omega (arith, stretch_moves read, long, r.full none more room fit fit', some)
+            | inr end ↦ omega (arith, end, left)
+          ]
 
       -- its kinds, compared with those of the steps
       module _ (codes₀ codes : List ℕ) (e : codes ≡ codes_front codes₀ (steps t is s)) (room : c.count ≤ length codes₀) (m : ℕ) (low : Lowest c.count (other_kind kinds codes) m) where
@@ -118,7 +136,7 @@ module _ (w : TreeWords) (bs : List ℕ) where
             get_or-take c.count kinds j 0 q ∙ eqb-true (get_or kinds j 0) (get_or codes j 0 % 8) (not-false _ (low.passed j (omega arith))) ∙ kind_of_step j q
 
         -- 26 at the first entry with another kind
-        pub differs : m < c.count → (place : ℕ) → place ≡ position_after m bs p b → replied (refusal 26 place) ≡ journal_answer w bs
+        pub differs : m < c.count → (place : ℕ) → place ≡ position_after m bs p b → refusal 26 place ≡ journal_refusal w bs
         differs h place f =
             let other : get_or kinds m 0 ≢ get_or codes m 0 % 8 = eqb-false (get_or kinds m 0) (get_or codes m 0 % 8) (not-true _ (low.fails h)) in
             let stops = stops_here t bs read s m (omega (arith, long)) (same_kinds m (omega arith)) (λ z. other (sym (get_or-take c.count kinds m 0 h) ∙ z ∙ sym (kind_of_step m h))) in
@@ -129,16 +147,11 @@ module _ (w : TreeWords) (bs : List ℕ) where
           rest_checked = goes_on t bs read s (same_kinds (length is) (omega (arith, long)))
 
           -- reading stopped for a reason
-          pub stops : (why : Reason) → c.refused ≡ Some why → replied (refusal (number_of why) c.position) ≡ journal_answer w bs
+          pub stops : (why : Reason) → c.refused ≡ Some why → refusal (number_of why) c.position ≡ journal_refusal w bs
           unfolding tree_of
           stops why e =
               let stopped : Stops w.threads bs c.position c.before (Some why) = subst (λ x. Stops w.threads bs c.position c.before x) e r.stops in
               answers ok s p b g (refusal (number_of why) c.position) (rest_checked ∙ stopped_by t bs _ c.position c.before why stopped)
-
-          -- the end of the journal
-          pub ends : length bs ≤ c.position → replied (refusal 0 0) ≡ journal_answer w bs
-          unfolding accepted
-          ends n = answers ok s p b g accepted (rest_checked ∙ ended t bs _ c.position c.before n)
 
           -- the next piece
           pub turn : (s' : State) → s' ≡ (run t is s).state → SoFar w bs s' c.position c.before

@@ -3,17 +3,16 @@ ghost use Rattle.std.specs.Prelude.{◌≡◌, true, ◌<◌, ◌≤◌, length,
 ghost use Rattle.model.specs.Trees.{tree_of};
 ghost use Rattle.model.specs.Runs.{steps, run};
 ghost use Rattle.model.specs.Counters.{lock_state, fresh_counters};
-ghost use Rattle.model.specs.Refusals.{refusal, first_refusal, tree_refusal, run_tests_before_19};
+ghost use Rattle.model.specs.Refusals.{first_refusal, tree_refusal, run_tests_before_19};
 ghost use Rattle.refusals.specs.Lowest.{Lowest, or_end};
 ghost use Rattle.lock.specs.Steps.Running.{codes_front};
 ghost use Rattle.journal_call.specs.Kinds.{other_kind, AllSameKinds};
-ghost use Rattle.journal_call.specs.Journals.{SoFar, Turned};
-ghost use Rattle.journal.specs.Answers.{replied, journal_answer};
+ghost use Rattle.journal_call.specs.Journals.{refused_by, SoFar, Turned};
+ghost use Rattle.journal.specs.Answers.{journal_refusal};
 
 use crate::reader::Reader;
-use journal::JournalReply;
 use model::{LockState, TreeWords};
-use refusals::reasons::Reason;
+use refusals::reasons::{Reason, Refusal};
 
 // Kept: alike in `step_check::comparison` for 16-bit numbers; a generic contract would speak of a conversion by a bound, in place of a number.
 // Whether all entries name the kinds that the run's loop reported. It looks at all of them, so that the compiler can compare many at once.
@@ -46,12 +45,6 @@ fn first_other_kind(kinds: &[u8], codes: &[u16], count: usize) -> Option<usize>
     )
 }
 
-fn answer_at(number: u32, place: usize) -> JournalReply
-    ensures { result ≡ replied (refusal number place) }
-{
-    JournalReply { number, place }
-}
-
 // The steps of a piece's threads, each reported. The counters of the domains, which no step reads, start at 0 for each piece, so that no journal is too long for them.
 fn run_piece(
     tree: &TreeWords,
@@ -78,29 +71,37 @@ struct Buffers {
     codes: [u16; 1024],
 }
 
-// The result of a piece: where the next one starts and the thread of the entry before it; or the answer.
+// Why an entry is refused, and the position of its first byte; it has as many bits as a length, more than a place of `refusals`.
 #[derive(Clone, Copy)]
-pub enum Turn {
-    Next { position: usize, before: u16 },
-    Stopped(JournalReply),
+pub(crate) struct Refused {
+    pub reason: Reason,
+    pub place: usize,
 }
 
-// The piece of a journal at a position: its entries are read, their threads stepped, their kinds compared.
+impl From<Refusal> for Refused {
+    ghost from_gives = { λ r e. e ≡ record { reason = r.reason; place = r.place } };
+
+    fn from(refusal: Refusal) -> Refused {
+        Refused {
+            reason: refusal.reason,
+            place: refusal.place as usize,
+        }
+    }
+}
+
+// The piece of a journal at the reader: its entries are read, their threads stepped, their kinds compared; the reader moves on past them.
 fn check_piece(
     tree: &TreeWords,
-    journal: &[u8],
-    position: usize,
-    before: u16,
+    reader: &mut Reader,
     state: &mut LockState,
     buffers: &mut Buffers,
-) -> Turn
-    requires { SoFar tree.now journal.now state.old.words position before }
-    ensures { Turned tree.now journal.now position result state.new.words }
+) -> Result<(), Refused>
+    requires { SoFar tree.now reader.old.journal.now state.old.words reader.old.position reader.old.before }
+    ensures journal_unchanged { reader.new.journal.now ≡ reader.old.journal.now }
+    ensures turned { Turned tree.now reader.old.journal.now reader.old.position result state.new.words reader.new.position reader.new.before }
 {
     let piece = crate::pieces::read_piece(
-        journal,
-        position,
-        before,
+        reader,
         tree.threads,
         &mut buffers.threads,
         &mut buffers.kinds,
@@ -113,25 +114,27 @@ fn check_piece(
         &mut buffers.codes,
     );
     if let Some(same) = first_other_kind(&buffers.kinds, &buffers.codes, piece.count) {
-        let place = crate::reader::position_after(journal, position, before, same);
-        return Turn::Stopped(answer_at(Reason::OtherKind.number(), place));
+        let place = crate::reader::position_after(reader, same);
+        return Err(Refused {
+            reason: Reason::OtherKind,
+            place,
+        });
     }
-    if let Some(reason) = piece.refused {
-        return Turn::Stopped(answer_at(reason.number(), piece.position));
-    }
-    if journal.len() <= piece.position {
-        return Turn::Stopped(answer_at(0, 0));
-    }
-    Turn::Next {
-        position: piece.position,
-        before: piece.before,
+    reader.position = piece.position;
+    reader.before = piece.before;
+    match piece.refused {
+        Some(reason) => Err(Refused {
+            reason,
+            place: piece.position,
+        }),
+        None => Ok(()),
     }
 }
 
 // The entries of a journal: one reader goes through it piece by piece, each from the state that the one before it left.
-pub(crate) fn check_entries(tree: &TreeWords, journal: &[u8]) -> JournalReply
+fn check_entries(tree: &TreeWords, journal: &[u8]) -> Result<(), Refused>
     requires { (tree_refusal (tree_of tree.now)).number ≡ 0 }
-    ensures { result ≡ journal_answer tree.now journal.now }
+    ensures { refused_by result ≡ journal_refusal tree.now journal.now }
 {
     let mut state = lock::steps::fresh(0);
     let mut buffers = Buffers {
@@ -146,20 +149,16 @@ pub(crate) fn check_entries(tree: &TreeWords, journal: &[u8]) -> JournalReply
         before: 0,
     };
     // Kept: how many pieces a journal has is known only at its end, so no `for` counts them.
-    loop {
-        match check_piece(
-            tree,
-            reader.journal,
-            reader.position,
-            reader.before,
-            &mut state,
-            &mut buffers,
-        ) {
-            Turn::Next { position, before } => {
-                reader.position = position;
-                reader.before = before;
-            }
-            Turn::Stopped(answer) => return answer,
-        }
+    while reader.position < journal.len() {
+        check_piece(tree, &mut reader, &mut state, &mut buffers)?;
     }
+    Ok(())
+}
+
+// What refuses a journal: a test of the tree, or an entry.
+pub(crate) fn refusal_of(tree: &TreeWords, journal: &[u8]) -> Result<(), Refused>
+    ensures { refused_by result ≡ journal_refusal tree.now journal.now }
+{
+    refusals::tree_refusal_of(tree)?;
+    check_entries(tree, journal)
 }

@@ -17,11 +17,14 @@ use model::TreeWords;
 pub fn check_journal(tree: &TreeWords, journal: &[u8]) -> JournalReply
     ensures { result ≡ journal_answer tree.now journal.now }
 {
-    match refusals::tree_refusal_of(tree) {
-        Ok(()) => journals::check_entries(tree, journal),
-        Err(refusal) => JournalReply {
-            number: refusal.number(),
-            place: refusal.place as usize,
+    match journals::refusal_of(tree, journal) {
+        Ok(()) => JournalReply {
+            number: 0,
+            place: 0,
+        },
+        Err(refused) => JournalReply {
+            number: refused.reason.number(),
+            place: refused.place,
         },
     }
 }

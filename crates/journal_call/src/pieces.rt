@@ -6,7 +6,7 @@ ghost use Rattle.journal_call.specs.Pieces.Pieces.{PieceRead};
 mod alike;
 mod blocks;
 
-use crate::reader::Piece;
+use crate::reader::{Piece, Reader};
 
 // Where the next entries that are read one by one end: a number of them after an index, or at the end of the arrays.
 fn block_end(room: usize, count: usize, wanted: usize) -> usize
@@ -18,11 +18,9 @@ fn block_end(room: usize, count: usize, wanted: usize) -> usize
     count + wanted.min(room - count)
 }
 
-// Reads up to thirty-two entries from a position on into the arrays from one index up to another, or up to the journal's end or the first entry that is refused; with a table of sizes if there are enough entries and bytes for it.
+// Reads up to thirty-two entries from the reader on into the arrays from one index up to another, or up to the journal's end or the first entry that is refused; with a table of sizes if there are enough entries and bytes for it.
 fn read_next(
-    journal: &[u8],
-    position: usize,
-    before: u16,
+    reader: &Reader,
     known: u32,
     threads: &mut [u16],
     kinds: &mut [u8],
@@ -32,55 +30,45 @@ fn read_next(
     requires from_le_end { (from ≤ end) × (end ≤ from + 32) }
     requires end_in_bounds { end ≤ length threads.old }
     requires end_in_bounds_2 { end ≤ length kinds.old }
-    ensures read_on { ReadOn known journal.now position before threads.old kinds.old from threads.new kinds.new result.count result.position result.before }
-    ensures stopped_before { StoppedBefore known journal.now end result }
+    ensures read_on { ReadOn known reader.now.journal.now reader.now.position reader.now.before threads.old kinds.old from threads.new kinds.new result.count result.position result.before }
+    ensures stopped_before { StoppedBefore known reader.now.journal.now end result }
 {
-    if end < from + 32 || journal.len().saturating_sub(position) < 128 {
-        return crate::reader::read_some(
-            journal, position, before, known, threads, kinds, from, end,
-        );
+    if end < from + 32 || reader.journal.len().saturating_sub(reader.position) < 128 {
+        return crate::reader::read_some(reader, known, threads, kinds, from, end);
     }
-    blocks::read_block(journal, position, before, known, threads, kinds, from, end)
+    blocks::read_block(reader, known, threads, kinds, from, end)
 }
 
-// Reads as many entries as the arrays hold from a position on, up to the journal's end or the first entry that is refused; their threads and kinds go to the front of the arrays. Four or sixteen entries in a row with the same bit map are read at once, others one by one: four of them after such entries, since more may follow where a thread runs in bursts, and otherwise thirty-two.
-pub fn read_piece(
-    journal: &[u8],
-    position: usize,
-    before: u16,
-    known: u32,
-    threads: &mut [u16],
-    kinds: &mut [u8],
-) -> Piece
-    ensures { PieceRead known journal.now position before threads.new kinds.new result }
+// Reads as many entries as the arrays hold from the reader on, up to the journal's end or the first entry that is refused; their threads and kinds go to the front of the arrays. Four or sixteen entries in a row with the same bit map are read at once, others one by one: four of them after such entries, since more may follow where a thread runs in bursts, and otherwise thirty-two.
+pub fn read_piece(reader: &Reader, known: u32, threads: &mut [u16], kinds: &mut [u8]) -> Piece
+    ensures { PieceRead known reader.now.journal.now reader.now.position reader.now.before threads.new kinds.new result }
 {
     let room = threads.len().min(kinds.len());
     let mut count: usize = 0;
-    let mut at = position;
-    let mut last = before;
+    let mut at = *reader;
     let mut wanted: usize = 4;
     // Kept: each turn moves on by as many entries as it read.
     while count < room {
-        let alike = alike::read_alike(journal, at, last, known, threads, kinds, count);
+        let alike = alike::read_alike(&at, known, threads, kinds, count);
         if count < alike.count {
-            at = alike.position;
-            last = alike.before;
+            at.position = alike.position;
+            at.before = alike.before;
             count = alike.count;
             wanted = 4;
             continue;
         }
         let end = block_end(room, count, wanted);
         wanted = 32;
-        let some = read_next(journal, at, last, known, threads, kinds, count, end);
+        let some = read_next(&at, known, threads, kinds, count, end);
         if some.refused.is_some() {
             return some;
         }
-        if journal.len() <= some.position {
+        if reader.journal.len() <= some.position {
             return some;
         }
-        at = some.position;
-        last = some.before;
+        at.position = some.position;
+        at.before = some.before;
         count = some.count;
     }
-    crate::reader::stopped(count, at, last, None)
+    crate::reader::stopped(count, at.position, at.before, None)
 }

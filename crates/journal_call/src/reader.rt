@@ -1,4 +1,4 @@
-// The reader of a journal, document 02, (xiv): it holds the borrowed bytes and its position in them. The functions that read entries one by one, given the bytes and a position, are here too; `check_entries` uses one reader for the whole journal.
+// The reader of a journal, document 02, (xiv): it holds the borrowed bytes and its position in them. The functions that read entries one by one are here too; `check_entries` uses one reader for the whole journal.
 ghost use Rattle.std.specs.Prelude.{◌≡◌, cond, ◌+◌, ◌*◌, ◌≤◌, ◌<◌, eqb, length};
 ghost use Rattle.journal.specs.Reading.{entry_size, entry_thread, entry_kind, entry_of, entry_at};
 ghost use Rattle.journal_call.specs.Reader.Stretches.{position_after, piece_of, ReadOn, StoppedBefore};
@@ -14,7 +14,6 @@ pub struct Reader<'a> {
     pub before: u16,
 }
 
-// Kept: the functions below take bytes, position and thread one by one, since they move on entry by entry; a reader would be taken apart and put together at each.
 // Consecutive entries: how many, the position after them, the thread of the last; and why the entry at that position is refused, if it is.
 #[derive(Clone, Copy)]
 pub struct Piece {
@@ -58,6 +57,7 @@ fn kind_by(given: u8, there: u8) -> u8
     given * there
 }
 
+// Kept: the functions for one entry take bytes, position and thread one by one, since their callers move on entry by entry; a reader would be put together at each.
 // The thread of an entry with this bit map, if four bytes are left, which is enough for any entry: every field is read, and those that the entry has are used.
 pub fn thread_at(journal: &[u8], position: usize, before: u16, bits: usize) -> u16
     requires bits_bound { bits ≤ 3 }
@@ -143,11 +143,9 @@ pub fn stopped(count: usize, position: usize, before: u16, refused: Option<Reaso
     }
 }
 
-// Reads consecutive entries from a position on into the arrays from one index up to another; up to the journal's end or the first entry that is refused.
+// Reads consecutive entries from the reader on into the arrays from one index up to another; up to the journal's end or the first entry that is refused.
 pub fn read_some(
-    journal: &[u8],
-    position: usize,
-    before: u16,
+    reader: &Reader,
     known: u32,
     threads: &mut [u16],
     kinds: &mut [u8],
@@ -157,13 +155,13 @@ pub fn read_some(
     requires from_le_end { from ≤ end }
     requires end_in_bounds { end ≤ length threads.old }
     requires end_in_bounds_2 { end ≤ length kinds.old }
-    ensures read_on { ReadOn known journal.now position before threads.old kinds.old from threads.new kinds.new result.count result.position result.before }
-    ensures stopped_before { StoppedBefore known journal.now end result }
+    ensures read_on { ReadOn known reader.now.journal.now reader.now.position reader.now.before threads.old kinds.old from threads.new kinds.new result.count result.position result.before }
+    ensures stopped_before { StoppedBefore known reader.now.journal.now end result }
 {
-    let mut at = position;
-    let mut last = before;
+    let mut at = reader.position;
+    let mut last = reader.before;
     for count in from..end {
-        match read_entry(journal, at, last) {
+        match read_entry(reader.journal, at, last) {
             Entry::Named { thread, kind, next } => {
                 if known <= u32::from(thread) {
                     return stopped(count, at, last, Some(Reason::BadEntry));
@@ -180,14 +178,14 @@ pub fn read_some(
     stopped(end, at, last, None)
 }
 
-// The position after a number of entries; if there are fewer, after the last of them.
-pub fn position_after(journal: &[u8], position: usize, before: u16, count: usize) -> usize
-    ensures { result ≡ position_after count journal.now position before }
+// The position after a number of entries from the reader on; if there are fewer, after the last of them.
+pub fn position_after(reader: &Reader, count: usize) -> usize
+    ensures { result ≡ position_after count reader.now.journal.now reader.now.position reader.now.before }
 {
-    let mut at = position;
-    let mut last = before;
+    let mut at = reader.position;
+    let mut last = reader.before;
     for _passed in 0..count {
-        match read_entry(journal, at, last) {
+        match read_entry(reader.journal, at, last) {
             Entry::Named {
                 thread,
                 kind: _,

@@ -1,10 +1,13 @@
--- `journal_call::check_journal` meets its contract: the tree's refusal, or the check of the entries.
-use Rattle.refusals.proofs.Refusing.{ok_numbered}
-use Rattle.journal_call.proofs.Journaling.{tree_refused}
+-- `journal_call::check_journal` meets its contract: the reply has the refusal's number and place, or 0 and 0.
+use mathlib.Core.Path.{ap}
+use Rattle.model.specs.Refusals.{refusal, accepted}
+use Rattle.journal.specs.Answers.{replied, journal_answer}
 use Rattle.journal_call.proofs.check_journal.Goals as goal
 
-pub check_entries-requires : goal.check_entries-requires
-check_entries-requires c = ok_numbered c.in-Ok.ensures
+pub returns-in-Ok : goal.returns-in-Ok
+unfolding journal_answer accepted refusal
+returns-in-Ok c = ap replied c.in-Ok.ensures
 
 pub returns-in-Err : goal.returns-in-Err
-returns-in-Err c = rw c.number.ensures (tree_refused _ _ _ c.in-Err.ensures)
+unfolding journal_answer refusal
+returns-in-Err c = rw c.number.ensures (ap replied c.in-Err.ensures)

@@ -4,7 +4,7 @@ ghost use Rattle.journal.specs.Reading.{entry_size};
 ghost use Rattle.journal_call.specs.Reader.Stretches.{ReadOn, StoppedBefore};
 ghost use Rattle.journal_call.specs.Pieces.Pieces.{SizesFrom};
 
-use crate::reader::{Piece, stopped};
+use crate::reader::{Piece, Reader, stopped};
 use refusals::reasons::Reason;
 
 // The size of an entry with this byte as its bit map; any number if the byte is no bit map.
@@ -25,24 +25,27 @@ fn sizes_from(journal: &[u8], position: usize) -> [u8; 128]
     sizes
 }
 
-// Reads entries from a position on into the arrays from one index up to another, or up to the first entry that is refused.
+// Reads entries from the reader on into the arrays from one index up to another, or up to the first entry that is refused.
 pub(crate) fn read_block(
-    journal: &[u8],
-    position: usize,
-    before: u16,
+    reader: &Reader,
     known: u32,
     threads: &mut [u16],
     kinds: &mut [u8],
     from: usize,
     end: usize,
 ) -> Piece
-    requires position_in_bounds { position + 128 ≤ length journal.now }
+    requires position_in_bounds { reader.now.position + 128 ≤ length reader.now.journal.now }
     requires from_le_end { (from ≤ end) × (end ≤ from + 32) }
     requires end_in_bounds { end ≤ length threads.old }
     requires end_in_bounds_2 { end ≤ length kinds.old }
-    ensures read_on { ReadOn known journal.now position before threads.old kinds.old from threads.new kinds.new result.count result.position result.before }
-    ensures stopped_before { StoppedBefore known journal.now end result }
+    ensures read_on { ReadOn known reader.now.journal.now reader.now.position reader.now.before threads.old kinds.old from threads.new kinds.new result.count result.position result.before }
+    ensures stopped_before { StoppedBefore known reader.now.journal.now end result }
 {
+    let Reader {
+        journal,
+        position,
+        before,
+    } = *reader;
     let sizes = sizes_from(journal, position);
     let mut passed: usize = 0;
     let mut last = before;

@@ -5,8 +5,8 @@ use lib.ListN.{length}
 use Rattle.journal_call.specs.Journals.{SoFar}
 use Rattle.journal_call.proofs.journals.check_entries.Given as goal
 
-abbrev pub invariant-loop-position : goal.invariant-loop-position
-invariant-loop-position l = (l.reader.journal.now ≡ l.journal) × SoFar l.tree l.journal l.state.words l.reader.position l.reader.before
+abbrev pub invariant-loop-reader : goal.invariant-loop-reader
+invariant-loop-reader l = (l.reader.journal.now ≡ l.journal) × SoFar l.tree l.journal l.state.words l.reader.position l.reader.before
 
-abbrev pub decreases-loop-position : goal.decreases-loop-position
-decreases-loop-position l = length l.journal - l.reader.position
+abbrev pub decreases-loop-reader : goal.decreases-loop-reader
+decreases-loop-reader l = length l.journal - l.reader.position

@@ -5,4 +5,4 @@ use Rattle.journal_call.specs.Reader.Stretches.{position_after}
 use Rattle.journal_call.proofs.reader.position_after.Given as goal
 
 abbrev pub invariant-loop-passed : goal.invariant-loop-passed
-invariant-loop-passed l = position_after (l.count - l._passed) l.journal l.at l.last ≡ position_after l.count l.journal l.position l.before
+invariant-loop-passed l = position_after (l.count - l._passed) l.reader.journal.now l.at l.last ≡ position_after l.count l.reader.journal.now l.reader.position l.reader.before

@@ -3,4 +3,4 @@ use Rattle.journal_call.specs.Reader.Stretches.{ReadOn}
 use Rattle.journal_call.proofs.reader.read_some.Given as goal
 
 abbrev pub invariant-loop-count : goal.invariant-loop-count
-invariant-loop-count l = ReadOn l.known l.journal l.position l.before l.initial.threads l.initial.kinds l.from l.threads l.kinds l.count l.at l.last
+invariant-loop-count l = ReadOn l.known l.reader.journal.now l.reader.position l.reader.before l.initial.threads l.initial.kinds l.from l.threads l.kinds l.count l.at l.last

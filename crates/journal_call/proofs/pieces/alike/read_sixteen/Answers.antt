@@ -14,14 +14,14 @@ returns-then-not-kinds_given c = let fits = c.requires.fits in
 
 pub loop-k-init : goal.loop-k-init
 loop-k-init c = let no_entry : c.args.count + 0 ≡ c.args.count = omega arith in
-    let no_byte : c.args.position + 2 * 0 ≡ c.args.position = omega arith in
+    let no_byte : c.args.reader.now.position + 2 * 0 ≡ c.args.reader.now.position = omega arith in
     rw (no_entry, no_byte) (nothing _ _ _ _ _ _ _ (omega (arith, c.requires.fits.threads_left)) (omega (arith, c.requires.fits.kinds_left)))
 
 pub loop-k-preserved : goal.loop-k-preserved
-loop-k-preserved c = let bits : get_or c.args.journal.now (c.args.position + 2 * c.loop-k.k) 0 ≡ 2 = c.kinds_given.ensures c.if-not-kinds_given.false c.loop-k.k (omega arith) in
+loop-k-preserved c = let bits : get_or c.args.reader.now.journal.now (c.args.reader.now.position + 2 * c.loop-k.k) 0 ≡ 2 = c.kinds_given.ensures c.if-not-kinds_given.false c.loop-k.k (omega arith) in
     let next : c.args.count + (c.loop-k.k + 1) ≡ c.args.count + c.loop-k.k + 1 = omega arith in
     rw next
     (more _ _ _ _ _ _ _ _ _ _ _ _ c.loop-k.invariant _ _ _ _ _
     (one _ _ _ _ _ _ _ _ _ _ (omega (arith, c.requires.fits.threads_left, threads_long _ _ _ _ _ _ _ _ _ _ _ _ c.loop-k.invariant)) (omega (arith, c.requires.fits.kinds_left, kinds_long _ _ _ _ _ _ _ _ _ _ _ _ c.loop-k.invariant))
-    (entry_read c.args.journal.now (c.args.position + 2 * c.loop-k.k) c.args.before 2 (omega (arith, c.requires.fits.bytes_left)) (sym bits) _ _ _ (lit≤ tt) refl (ap (λ q. get_or c.args.journal.now q 0) (omega arith)) (omega arith))
+    (entry_read c.args.reader.now.journal.now (c.args.reader.now.position + 2 * c.loop-k.k) c.args.reader.now.before 2 (omega (arith, c.requires.fits.bytes_left)) (sym bits) _ _ _ (lit≤ tt) refl (ap (λ q. get_or c.args.reader.now.journal.now q 0) (omega arith)) (omega arith))
     c.requires.before_lt_known))
