@@ -9,6 +9,7 @@ ghost use Rattle.schedules.specs.Answers.{many_reply, rows_answer};
 mod many;
 
 use model::TreeWords;
+use refusals::accepted_tree::AcceptedTree;
 use refusals::reasons::{Reason, Refusal};
 use schedules::ManyReply;
 
@@ -52,8 +53,9 @@ pub fn run_many(tree: &TreeWords, lengths: &[u32], entries: &[u16], rows: &mut [
 {
     match many_refusal_of(tree, lengths, entries.len(), rows.len()) {
         Ok(()) => {
+            let accepted = AcceptedTree { words: tree };
             let mut trace = [0u16; 65536];
-            many::run_rows(tree, lengths, entries, &mut trace, rows);
+            many::run_rows(&accepted, lengths, entries, &mut trace, rows);
             ManyReply {
                 number: 0,
                 place: 0,

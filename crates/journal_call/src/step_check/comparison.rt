@@ -1,11 +1,11 @@
 // Threads compared with the tree, and named steps with what the run's loop reported. A whole list is compared first, without an early exit, so that the compiler can compare many at once; the first that is wrong is searched only if there is one.
-ghost use Rattle.std.specs.Prelude.{◌≡◌, true, cond, ◌/◌, ◌%◌, ◌+◌, ◌≤◌, ◌<◌, eqb, length, IfSome};
+ghost use Rattle.std.specs.Prelude.{◌≡◌, true, cond, ◌%◌, ◌+◌, ◌≤◌, ◌<◌, eqb, length, IfSome};
 ghost use Rattle.refusals.specs.Lowest.{Lowest, or_end};
 ghost use Rattle.refusals.specs.Reasons.{number_of};
-ghost use Rattle.rows.specs.Common.Standing.{row_domain};
 ghost use Rattle.journal_call.specs.Kinds.{AllSameKinds};
 ghost use Rattle.journal_call.specs.StepCheck.Stretches.{unknown, differs, NoneLarger, HaveHomes, HomesOf, AllSameDomains, AllSame, Comparable};
 
+use lock::steps::run;
 use refusals::reasons::Reason;
 
 // The largest of these threads; 0 if there is none.
@@ -59,17 +59,6 @@ fn homes_of(homes: &[u8; 256], threads: &[u16], count: usize) -> [u16; 1024]
     found
 }
 
-// The domain of a step, given its thread's home and the number that reports the step.
-// Kept: `domain_of_code` of the run's loop and `domain_of` of runs_call, in crates beside or below; in 16 bits twice as many are compared at once.
-fn domain_by(home: u16, code: u16) -> u16
-    ensures { result ≡ row_domain home ((code / 8) % 16) (code / 128) }
-{
-    match (code / 8) % 16 {
-        0 | 5 => home,
-        _ => code / 128,
-    }
-}
-
 // Kept: an index for three slices; with a `zip` of the three the invariant stayed unproved.
 // Whether all named domains are those of the steps, given the homes of their threads.
 fn all_same_domains(homes: &[u16; 1024], domains: &[u16], codes: &[u16], count: usize) -> bool
@@ -80,7 +69,7 @@ fn all_same_domains(homes: &[u16; 1024], domains: &[u16], codes: &[u16], count: 
 {
     let mut same = true;
     for k in 0..count {
-        same &= domains[k] == domain_by(homes[k], codes[k]);
+        same &= domains[k] == run::domain_of_code(homes[k], codes[k]);
     }
     same
 }
@@ -125,7 +114,7 @@ pub(crate) fn first_difference(
             requires { Comparable threads.now kinds.now domains.now codes.now (k.now + 1) }
         {
             let home = u16::from(homes[usize::from(threads[*k])]);
-            kinds[*k] != codes[*k] % 8 || domains[*k] != domain_by(home, codes[*k])
+            kinds[*k] != codes[*k] % 8 || domains[*k] != run::domain_of_code(home, codes[*k])
         },
     )
 }

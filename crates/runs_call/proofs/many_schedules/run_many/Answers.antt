@@ -1,9 +1,13 @@
 -- `runs_call::many_schedules::run_many` meets its contract: refused as a whole, or every row.
+use Rattle.model.proofs.Trees.Reading.{few_domains, few_threads}
 use Rattle.runs_call.proofs.many_schedules.Storing.{call_refuses, rows_kept, call_good, call_replies, call_answered}
 use Rattle.runs_call.proofs.many_schedules.run_many.Goals as goal
 
-pub run_rows-requires-clause-tree_value : goal.run_rows-requires-clause-tree_value
-run_rows-requires-clause-tree_value c = let a = c.args in (call_good a.tree.now a.lengths.now a.entries.now a.rows.now c.in-Ok.ensures).tree
+pub invariant_of-accepted : goal.invariant_of-accepted
+invariant_of-accepted c =
+    let a = c.args in
+    let ok = (call_good a.tree.now a.lengths.now a.entries.now a.rows.now c.in-Ok.ensures).tree in
+    record { accepted = ok; few_domains = few_domains _ ok; few_threads = few_threads _ ok }
 
 pub run_rows-requires-clause-lengths_value : goal.run_rows-requires-clause-lengths_value
 run_rows-requires-clause-lengths_value c = let a = c.args in (call_good a.tree.now a.lengths.now a.entries.now a.rows.now c.in-Ok.ensures).adds_up

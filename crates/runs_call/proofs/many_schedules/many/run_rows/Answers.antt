@@ -17,7 +17,7 @@ pub slice_bounds-run_row-end : goal.slice_bounds-run_row-end
 slice_bounds-run_row-end c = let h = next_fits _ _ _ _ _ _ _ _ c.loop-n.invariant.0 (omega arith) in search rules
 
 pub run_row-requires : goal.run_row-requires
-run_row-requires c = record { tree_value = c.requires.tree_value; trace_len = omega (arith, c.loop-n.invariant.1, c.requires); at_in_bounds = omega (arith, c.loop-n.invariant.0.row_place, c.loop-n.invariant.0.long, c.loop-n-test.true, c.requires) }
+run_row-requires c = record { trace_len = omega (arith, c.loop-n.invariant.1, c.requires); at_in_bounds = omega (arith, c.loop-n.invariant.0.row_place, c.loop-n.invariant.0.long, c.loop-n-test.true, c.requires) }
 
 pub overflow_add-at : goal.overflow_add-at
 overflow_add-at c = omega (arith, c.loop-n.invariant.0.row_place, c.loop-n-test.true, c.requires)

@@ -5,4 +5,4 @@ use Rattle.runs_call.proofs.many_schedules.Storing.{SoFar}
 use Rattle.runs_call.proofs.many_schedules.many.run_rows.Given as goal
 
 abbrev pub invariant-loop-n : goal.invariant-loop-n
-invariant-loop-n l = SoFar l.tree l.lengths l.entries l.initial.rows l.rows l.n-index l.from l.at × (length l.trace ≡ length l.initial.trace)
+invariant-loop-n l = SoFar l.tree.words.now l.lengths l.entries l.initial.rows l.rows l.n-index l.from l.at × (length l.trace ≡ length l.initial.trace)
