@@ -1,9 +1,7 @@
-// A tree that a fresh lock accepts, and what is read from its arrays.
-ghost use Rattle.std.specs.Prelude.{◌≡◌, cond, ◌<◌, ◌≤◌, get_or, IfOk};
+// What is read from the arrays of a tree that a fresh lock accepts.
+ghost use Rattle.std.specs.Prelude.{◌≡◌, cond, ◌<◌, ◌≤◌, get_or};
 ghost use Rattle.model.specs.Scans.{any_below, largest_below};
 ghost use Rattle.model.specs.Trees.{tree_of, is_child, is_leaf, level};
-ghost use Rattle.model.specs.Refusals.{tree_refusal};
-ghost use Rattle.refusals.specs.Reasons.{refusal_of};
 ghost use Rattle.bounds.specs.StarvationFreedom.Bounds.{levels};
 ghost use Rattle.bounds.specs.Answers.{allowance_word, words_from};
 ghost use Rattle.bounds_call.specs.Waits.{Owned};

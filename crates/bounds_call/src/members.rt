@@ -77,6 +77,7 @@ fn word_of(passes: &[u64; 64], m: usize) -> u64
     if m < 256 { 1 } else { passes[m - 256] }
 }
 
+// Kept: the loop of `sums_of_others` from the first record up; the direction is all the difference, and each order has its own invariant.
 // For each member the passes of those in its domain with a lower record.
 fn sums_before(tree: &AcceptedTree, passes: &[u64; 64]) -> [u64; 320]
     requires { Allowed (effective (tree_of tree.now.words.now)) passes.now }

@@ -19,6 +19,7 @@ pub enum Link {
     Broken,
 }
 
+// Kept: a function, since `From` would say less than its name where it is used.
 // The link to the only thread that is looked to, if there is one.
 fn to(only: Option<u16>) -> Link
     ensures { result ≡ to only }

@@ -81,6 +81,7 @@ pub extern "C" fn hmcs_run(
     lock::run_lock(&tree, state, schedule, trace)
 }
 
+// Kept: `From` cannot be implemented here, since both types are other crates'.
 // The number and place of what the tests found.
 #[tactic(auto, unfolding(model::specs::Refusals::accepted, model::specs::Refusals::refusal))]
 fn answered(tested: Result<(), Refusal>) -> Answer

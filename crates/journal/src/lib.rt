@@ -3,6 +3,7 @@
 
 pub mod step_check;
 
+// Kept: the definition `entry_at` gives these three.
 // What is at a position: an entry, with the thread and the kind that it names and the position after it; an entry that is cut off or has another bit set; or the end of the journal.
 #[derive(Clone, Copy)]
 pub enum Entry {

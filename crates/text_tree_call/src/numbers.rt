@@ -5,6 +5,7 @@ ghost use Rattle.text_tree_call.specs.Inner.{Passed, FirstDigit, CountRead, Thre
 
 use crate::Stuck;
 
+// Kept: 0, not None, as the definitions read a text; lock_file, beside this crate, reads a file alike.
 // The byte at a position; 0, which no text contains, after the end of the text.
 pub(crate) fn byte_at(text: &[u8], at: usize) -> u8
     ensures { result ≡ get_or text.now at 0 }
