@@ -4,7 +4,7 @@ ghost use Rattle.model.specs.Trees.{tree_of};
 ghost use Rattle.journal.specs.StepCheck.Answers.{checked};
 ghost use Rattle.journal_call.specs.StepCheck.Stretches.{refused_number, Ready, Stretch, PieceFits};
 
-use crate::step_check::comparison;
+use crate::step_check::comparison::{self, Reported};
 use lock::steps::{limits, run};
 use model::{LockState, TreeWords};
 use refusals::reasons::Reason;
@@ -64,7 +64,13 @@ fn check_piece(
         &mut tally,
         codes,
     );
-    match comparison::first_difference(&tree.homes, threads, kinds, domains, codes, stretch.steps) {
+    let reported = Reported {
+        threads: &threads[..stretch.steps],
+        kinds: &kinds[..stretch.steps],
+        domains: &domains[..stretch.steps],
+        codes: &codes[..stretch.steps],
+    };
+    match comparison::first_difference(&tree.homes, &reported) {
         None => stretch,
         Some(same) => {
             let refused = comparison::reason_of(kinds[same], codes[same]);
