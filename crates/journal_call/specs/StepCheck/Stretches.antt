@@ -71,10 +71,8 @@ AllSameDomains fs ds cs n = (j : ℕ) → j < n → not (eqb (get_or ds j 0) (ro
 abbrev pub AllSame : (homes threads kinds domains codes : List ℕ) → (count : ℕ) → Type 0
 AllSame hs is ks ds cs n = (j : ℕ) → j < n → differs hs is ks ds cs j ≡ false
 
--- a piece: three lists of equal length, and arrays for what is traced and reported
-pub record PieceFits (threads kinds domains trace codes : List ℕ) : Type 0 where
+-- a piece, and arrays for what is traced and reported
+pub record PieceFits (threads trace codes : List ℕ) : Type 0 where
   pub few : length threads ≤ 1024
-  pub kinds_long : length kinds ≡ length threads
-  pub domains_long : length domains ≡ length threads
   pub trace_room : length trace ≡ 1024
   pub codes_room : length codes ≡ 1024
