@@ -1,6 +1,6 @@
 -- The check of a journal piece by piece: the state so far, the entries left, and the result of a piece.
 use mathlib.Core.Path.{◌≡◌, sym, ap, ◌∙◌, subst}
-use Rattle.std.specs.Prelude.{Some, None, Result}
+use Rattle.std.specs.Prelude.{Some, None, Result, min}
 use Rattle.std.proofs.lemmas.Bool.{cases_lt}
 use Rattle.std.specs.Result.{IsErrAnd}
 use Rattle.std.proofs.lemmas.Result.{err_from_is_err_and}
@@ -57,6 +57,25 @@ kind_of_code (c ∷ b) (x ∷ xs) (suc j) h f = kind_of_code b xs j (omega arith
 -- WHAT `?` passes on
 pub refusal_passed : {A : Type 0} (r : Result A Refused) (x : Refused) {m : Refusal} → IsErrAnd r (λ y. y ≡ x) → refusal (number_of x.reason) x.place ≡ m → refused_by r ≡ m
 refusal_passed r x h e = let y = err_from_is_err_and r h in rw (y.1, y.2) e
+
+-- the fronts of two lists are equally long
+pub fronts_long : (n : ℕ) (ks cs : List ℕ) → n ≤ length ks → n ≤ length cs → min (length (take n ks)) (length (take n cs)) ≡ n
+fronts_long n ks cs a b = omega (arith, length-take-le n ks a, length-take-le n cs b)
+
+-- the first other kind of the front of two lists is that of the lists
+pub lowest_of_front :
+    (n : ℕ) (ks cs : List ℕ) → n ≤ length ks → n ≤ length cs → (m : ℕ) →
+    Lowest (min (length (take n ks)) (length (take n cs))) (other_kind (take n ks) (take n cs)) m → Lowest n (other_kind ks cs) m
+lowest_of_front n ks cs a b m L =
+    let long = fronts_long n ks cs a b in
+    record {
+      within = omega (arith, L.within, long);
+      passed = λ j h. sym (same j (omega (arith, L.within, long))) ∙ L.passed j h;
+      fails = λ h. sym (same m h) ∙ L.fails (omega (arith, long));
+    }
+  where
+    same : (j : ℕ) → j < n → other_kind (take n ks) (take n cs) j ≡ other_kind ks cs j
+    same j h = rw (get_or-take n ks j 0 h, get_or-take n cs j 0 h)
 
 module _ (w : TreeWords) (bs : List ℕ) where
   abbrev t : Tree

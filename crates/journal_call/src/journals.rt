@@ -1,5 +1,5 @@
 // The steps that a journal names, taken from a fresh lock, piece by piece: the entries of a piece are read, their threads stepped by the run's loop, and the reported kinds compared. One reader goes through the whole journal.
-ghost use Rattle.std.specs.Prelude.{◌≡◌, true, ◌<◌, ◌≤◌, length, IfSome};
+ghost use Rattle.std.specs.Prelude.{◌≡◌, true, ◌<◌, min, length, IfSome};
 ghost use Rattle.model.specs.Trees.{tree_of};
 ghost use Rattle.model.specs.Runs.{steps, run};
 ghost use Rattle.model.specs.Counters.{lock_state, fresh_counters};
@@ -16,33 +16,28 @@ use refusals::reasons::{Reason, Refusal};
 
 // Kept: alike in `step_check::comparison` for 16-bit numbers; a generic contract would speak of a conversion by a bound, in place of a number.
 // Whether all entries name the kinds that the run's loop reported. It looks at all of them, so that the compiler can compare many at once.
-fn all_same_kinds(kinds: &[u8], codes: &[u16], count: usize) -> bool
-    requires count_in_bounds { count ≤ length kinds.now }
-    requires count_in_bounds_2 { count ≤ length codes.now }
-    ensures { result ≡ true → AllSameKinds kinds.now codes.now count }
+fn all_same_kinds(kinds: &[u8], codes: &[u16]) -> bool
+    ensures { result ≡ true → AllSameKinds kinds.now codes.now (min (length kinds.now) (length codes.now)) }
 {
     let mut same = true;
-    for (kind, code) in kinds[..count].iter().zip(&codes[..count]) {
+    for (kind, code) in kinds.iter().zip(codes) {
         same &= u16::from(*kind) == *code % 8;
     }
     same
 }
 
 // The first entry whose kind is not the one reported for its step; it is searched only if there is one.
-fn first_other_kind(kinds: &[u8], codes: &[u16], count: usize) -> Option<usize>
-    requires count_in_bounds { count ≤ length kinds.now }
-    requires count_in_bounds_2 { count ≤ length codes.now }
-    ensures lowest { Lowest count (other_kind kinds.now codes.now) (or_end result count) }
-    ensures inside { IfSome result (λ place. place < count) }
+fn first_other_kind(kinds: &[u8], codes: &[u16]) -> Option<usize>
+    ensures lowest { Lowest (min (length kinds.now) (length codes.now)) (other_kind kinds.now codes.now) (or_end result (min (length kinds.now) (length codes.now))) }
+    ensures inside { IfSome result (λ place. (place < length kinds.now) × (place < length codes.now)) }
 {
-    if all_same_kinds(kinds, codes, count) {
+    if all_same_kinds(kinds, codes) {
         return None;
     }
-    (0..count).find(
-        |k|
-            requires { (k.now < length kinds.now) × (k.now < length codes.now) }
-        { u16::from(kinds[*k]) != codes[*k] % 8 },
-    )
+    kinds
+        .iter()
+        .zip(codes)
+        .position(|(kind, code)| u16::from(*kind) != *code % 8)
 }
 
 // The steps of a piece's threads, each reported. The counters of the domains, which no step reads, start at 0 for each piece, so that no journal is too long for them.
@@ -113,7 +108,8 @@ fn check_piece(
         &mut buffers.trace,
         &mut buffers.codes,
     );
-    if let Some(same) = first_other_kind(&buffers.kinds, &buffers.codes, piece.count) {
+    let kinds = &buffers.kinds[..piece.count];
+    if let Some(same) = first_other_kind(kinds, &buffers.codes[..piece.count]) {
         let place = crate::reader::position_after(reader, same);
         return Err(Refused {
             reason: Reason::OtherKind,

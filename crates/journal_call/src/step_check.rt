@@ -7,6 +7,7 @@ ghost use Rattle.journal.specs.StepCheck.Answers.{early_refusal, steps_answer};
 mod comparison;
 mod pieces;
 
+use crate::step_check::pieces::NamedSteps;
 use journal::step_check::StepsReply;
 use model::{LockState, TreeWords};
 use refusals::reasons::{Reason, Refusal};
@@ -49,9 +50,12 @@ pub fn check_steps(
     let mut left = state;
     let mut trace = [0u16; 1024];
     let mut codes = [0u16; 1024];
-    let found = pieces::check_all(
-        tree, &mut left, threads, kinds, domains, &mut trace, &mut codes,
-    );
+    let named = NamedSteps {
+        threads,
+        kinds,
+        domains,
+    };
+    let found = pieces::check_all(tree, &mut left, &named, &mut trace, &mut codes);
     let (number, place) = match found.refused {
         Some(reason) => (reason.number(), found.steps),
         None => (0, 0),

@@ -38,7 +38,7 @@ use Rattle.journal.specs.StepCheck.Answers.{Checked, checked}
 use Rattle.journal.specs.StepCheck.Laws.{after_first}
 use Rattle.journal.proofs.step_check.Checking.{above_at, number_26, number_29, number_0, number_at, Right, all_right, stops_at}
 use Rattle.journal_call.specs.declared.step_check.pieces.Found.{Found}
-use Rattle.journal_call.specs.StepCheck.Stretches.{refused_number, Ready, Stretch, same_kind, same_domain, differs, Comparable}
+use Rattle.journal_call.specs.StepCheck.Stretches.{refused_number, Ready, Stretch, same_kind, same_domain, differs, HaveHomes}
 use Rattle.journal_call.proofs.step_check.Stretching.{all_known}
 
 -- the parts of what is found for named steps
@@ -97,17 +97,34 @@ module _ (w : TreeWords) (s : LockState) (is ks ds : List ℕ) (g : Ready (tree_
   unfolding tree_of
   small j h = omega (arith, S.known j h, few_threads w g.tree)
 
+  -- the lists of the stretch have equal length, and its threads have homes
+  pub front_long : (l : List ℕ) → st.steps ≤ length l → length (take st.steps l) ≡ length (take st.steps is)
+  front_long l h = length-take-le st.steps l h ∙ sym (length-take-le st.steps is S.within)
+
+  pub front_small : HaveHomes (take st.steps is) (length (take st.steps is))
+  front_small j h =
+      let inside : j < st.steps = omega (arith, h, length-take-le st.steps is S.within) in
+      rw (get_or-take st.steps is j 0 inside) (small j inside)
+
   module _ (ks_long : length ks ≡ length is) (ds_long : length ds ≡ length is) (codes₀ codes : List ℕ) (room : length codes₀ ≡ 1024) (few : length is ≤ 1024) (reported : codes ≡ codes_front codes₀ (steps t (take st.steps is) s.words)) where
-    pub comparable : Comparable is ks ds codes st.steps
-    comparable =
+    -- the codes are as many as the steps, at least
+    pub codes_long : st.steps ≤ length codes
+    codes_long = omega (arith, S.within, few, room, ap length reported, reported_front_length codes₀ (steps t (take st.steps is) s.words))
+
+    -- the first difference of the stretch is that of the piece
+    pub lowest_of_front :
+        (m : ℕ) → Lowest (length (take st.steps is)) (differs w.homes (take st.steps is) (take st.steps ks) (take st.steps ds) (take st.steps codes)) m →
+        Lowest st.steps (differs w.homes is ks ds codes) m
+    lowest_of_front m L =
+        let long : length (take st.steps is) ≡ st.steps = length-take-le st.steps is S.within in
         record {
-          few = omega (arith, S.within, few);
-          threads_long = S.within;
-          kinds_long = omega (arith, S.within, ks_long);
-          domains_long = omega (arith, S.within, ds_long);
-          codes_long = omega (arith, S.within, few, room, ap length reported, reported_front_length codes₀ (steps t (take st.steps is) s.words));
-          small = small;
+          within = omega (arith, L.within, long);
+          passed = λ j h. sym (same j (omega (arith, L.within, long))) ∙ L.passed j h;
+          fails = λ h. sym (same m h) ∙ L.fails (omega (arith, long));
         }
+      where
+        same : (j : ℕ) → j < st.steps → differs w.homes (take st.steps is) (take st.steps ks) (take st.steps ds) (take st.steps codes) j ≡ differs w.homes is ks ds codes j
+        same j h = rw (get_or-take st.steps is j 0 h, get_or-take st.steps ks j 0 h, get_or-take st.steps ds j 0 h, get_or-take st.steps codes j 0 h)
 
     module _ (m : ℕ) (L : Lowest st.steps (differs w.homes is ks ds codes) m) where
       -- one step, as it was reported

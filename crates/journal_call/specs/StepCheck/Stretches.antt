@@ -71,19 +71,8 @@ AllSameDomains fs ds cs n = (j : ℕ) → j < n → not (eqb (get_or ds j 0) (ro
 abbrev pub AllSame : (homes threads kinds domains codes : List ℕ) → (count : ℕ) → Type 0
 AllSame hs is ks ds cs n = (j : ℕ) → j < n → differs hs is ks ds cs j ≡ false
 
--- what a comparison requires of the lists
-pub record Comparable (threads kinds domains codes : List ℕ) (count : ℕ) : Type 0 where
-  pub few : count ≤ 1024
-  pub threads_long : count ≤ length threads
-  pub kinds_long : count ≤ length kinds
-  pub domains_long : count ≤ length domains
-  pub codes_long : count ≤ length codes
-  pub small : HaveHomes threads count
-
--- a piece: three lists of equal length, and arrays for what is traced and reported
-pub record PieceFits (threads kinds domains trace codes : List ℕ) : Type 0 where
+-- a piece, and arrays for what is traced and reported
+pub record PieceFits (threads trace codes : List ℕ) : Type 0 where
   pub few : length threads ≤ 1024
-  pub kinds_long : length kinds ≡ length threads
-  pub domains_long : length domains ≡ length threads
   pub trace_room : length trace ≡ 1024
   pub codes_room : length codes ≡ 1024

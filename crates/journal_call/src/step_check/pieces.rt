@@ -4,7 +4,7 @@ ghost use Rattle.model.specs.Trees.{tree_of};
 ghost use Rattle.journal.specs.StepCheck.Answers.{checked};
 ghost use Rattle.journal_call.specs.StepCheck.Stretches.{refused_number, Ready, Stretch, PieceFits};
 
-use crate::step_check::comparison;
+use crate::step_check::comparison::{self, Reported};
 use lock::steps::{limits, run};
 use model::{LockState, TreeWords};
 use refusals::reasons::Reason;
@@ -14,6 +14,16 @@ use refusals::reasons::Reason;
 pub(crate) struct Found {
     pub refused: Option<Reason>,
     pub steps: usize,
+}
+
+// The steps that a host names, in three lists of equal length.
+#[derive(Clone, Copy)]
+pub(crate) struct NamedSteps<'a> {
+    pub threads: &'a [u16],
+    pub kinds: &'a [u16],
+    pub domains: &'a [u16],
+    ghost kinds_long: { length kinds.now ≡ length threads.now },
+    ghost domains_long: { length domains.now ≡ length threads.now },
 }
 
 // How many threads of a piece can be stepped: those before the first that 12 or 19 refuses.
@@ -39,20 +49,19 @@ fn stretch_of(tree: &TreeWords, state: &LockState, threads: &[u16]) -> Found
 fn check_piece(
     tree: &TreeWords,
     state: &mut LockState,
-    threads: &[u16],
-    kinds: &[u16],
-    domains: &[u16],
+    named: &NamedSteps,
     trace: &mut [u16],
     codes: &mut [u16],
 ) -> Found
     requires ready { Ready (tree_of tree.now) state.old }
-    requires piece_fits { PieceFits threads.now kinds.now domains.now trace.old codes.old }
-    ensures number { refused_number result.refused ≡ (checked (tree_of tree.now) state.old threads.now kinds.now domains.now).number }
-    ensures steps { result.steps ≡ (checked (tree_of tree.now) state.old threads.now kinds.now domains.now).steps }
-    ensures state_after { state.new ≡ (checked (tree_of tree.now) state.old threads.now kinds.now domains.now).state }
+    requires piece_fits { PieceFits named.now.threads.now trace.old codes.old }
+    ensures number { refused_number result.refused ≡ (checked (tree_of tree.now) state.old named.now.threads.now named.now.kinds.now named.now.domains.now).number }
+    ensures steps { result.steps ≡ (checked (tree_of tree.now) state.old named.now.threads.now named.now.kinds.now named.now.domains.now).steps }
+    ensures state_after { state.new ≡ (checked (tree_of tree.now) state.old named.now.threads.now named.now.kinds.now named.now.domains.now).state }
     ensures trace_len_unchanged { length trace.new ≡ length trace.old }
     ensures codes_len_unchanged { length codes.new ≡ length codes.old }
 {
+    let threads = named.threads;
     let stretch = stretch_of(tree, state, threads);
     let kept = *state;
     let mut tally = [0u32; 6];
@@ -64,10 +73,16 @@ fn check_piece(
         &mut tally,
         codes,
     );
-    match comparison::first_difference(&tree.homes, threads, kinds, domains, codes, stretch.steps) {
+    let reported = Reported {
+        threads: &threads[..stretch.steps],
+        kinds: &named.kinds[..stretch.steps],
+        domains: &named.domains[..stretch.steps],
+        codes: &codes[..stretch.steps],
+    };
+    match comparison::first_difference(&tree.homes, &reported) {
         None => stretch,
         Some(same) => {
-            let refused = comparison::reason_of(kinds[same], codes[same]);
+            let refused = comparison::reason_of(named.kinds[same], codes[same]);
             *state = kept;
             run::run_lent(tree, state, &threads[..same], trace, &mut tally, codes);
             Found {
@@ -82,34 +97,27 @@ fn check_piece(
 pub(crate) fn check_all(
     tree: &TreeWords,
     state: &mut LockState,
-    threads: &[u16],
-    kinds: &[u16],
-    domains: &[u16],
+    named: &NamedSteps,
     trace: &mut [u16],
     codes: &mut [u16],
 ) -> Found
     requires ready { Ready (tree_of tree.now) state.old }
-    requires kinds_len { length kinds.now ≡ length threads.now }
-    requires domains_len { length domains.now ≡ length threads.now }
     requires trace_len { length trace.old ≡ 1024 }
     requires codes_len { length codes.old ≡ 1024 }
-    ensures number { refused_number result.refused ≡ (checked (tree_of tree.now) state.old threads.now kinds.now domains.now).number }
-    ensures steps { result.steps ≡ (checked (tree_of tree.now) state.old threads.now kinds.now domains.now).steps }
-    ensures state_after { state.new ≡ (checked (tree_of tree.now) state.old threads.now kinds.now domains.now).state }
+    ensures number { refused_number result.refused ≡ (checked (tree_of tree.now) state.old named.now.threads.now named.now.kinds.now named.now.domains.now).number }
+    ensures steps { result.steps ≡ (checked (tree_of tree.now) state.old named.now.threads.now named.now.kinds.now named.now.domains.now).steps }
+    ensures state_after { state.new ≡ (checked (tree_of tree.now) state.old named.now.threads.now named.now.kinds.now named.now.domains.now).state }
 {
     let mut at = 0;
     // Kept: three lists are cut at the same places, each piece where the one before it ended.
-    while at < threads.len() {
-        let end = at + (threads.len() - at).min(1024);
-        let found = check_piece(
-            tree,
-            state,
-            &threads[at..end],
-            &kinds[at..end],
-            &domains[at..end],
-            trace,
-            codes,
-        );
+    while at < named.threads.len() {
+        let end = at + (named.threads.len() - at).min(1024);
+        let piece = NamedSteps {
+            threads: &named.threads[at..end],
+            kinds: &named.kinds[at..end],
+            domains: &named.domains[at..end],
+        };
+        let found = check_piece(tree, state, &piece, trace, codes);
         if found.refused.is_some() {
             return Found {
                 steps: at + found.steps,

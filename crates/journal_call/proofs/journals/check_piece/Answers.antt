@@ -4,7 +4,7 @@ use Prim.Native.Nat.{◌≤◌}
 use native.Mathlib.Omega.{arith}
 use lib.Dec.{lit≤}
 use lib.ListN.{length}
-use Rattle.journal_call.proofs.Journaling.{runs, further, differs, stops, turn}
+use Rattle.journal_call.proofs.Journaling.{fronts_long, lowest_of_front, runs, further, differs, stops, turn}
 use borrow.Author.Rules.{rules}
 use Rattle.journal_call.proofs.journals.check_piece.Goals as goal
 
@@ -16,21 +16,27 @@ run_piece-requires c = let g = c.requires in
 pub returns-in-Some : goal.returns-in-Some
 returns-in-Some c = let g = c.requires in
     let room : c.read_piece-piece.result.count ≤ length c.args.buffers.now.codes = search rules in
-    record { journal_unchanged = refl; turned = differs _ _ g.passes _ _ _ g _ _ _ c.read_piece-piece.ensures _ _ c.run_piece.ensures.codes_after room _ c.in-Some.ensures.lowest c.in-Some.ensures.inside _ c.position_after-place.ensures }
+    let long : c.read_piece-piece.result.count ≤ length c.run_piece.new.codes = search rules in
+    let fit = c.read_piece-piece.ensures.kinds_fit in
+    record { journal_unchanged = refl; turned = differs _ _ g.passes _ _ _ g _ _ _ c.read_piece-piece.ensures _ _ c.run_piece.ensures.codes_after room _ (lowest_of_front _ _ _ fit long _ c.in-Some.ensures.lowest) (omega (arith, c.in-Some.ensures.inside, fronts_long _ _ _ fit long)) _ c.position_after-place.ensures }
 
 pub returns-in-Some-refused : goal.returns-in-Some-refused
 returns-in-Some-refused c = let g = c.requires in
     let room : c.read_piece-piece.result.count ≤ length c.args.buffers.now.codes = search rules in
-    record { journal_unchanged = refl; turned = stops _ _ g.passes _ _ _ g _ _ _ c.read_piece-piece.ensures _ _ c.run_piece.ensures.codes_after room c.read_piece-piece.result.count c.in_default.ensures.lowest (omega arith) _ c.in-Some-refused.is }
+    let long : c.read_piece-piece.result.count ≤ length c.run_piece.new.codes = search rules in
+    let fit = c.read_piece-piece.ensures.kinds_fit in
+    record { journal_unchanged = refl; turned = stops _ _ g.passes _ _ _ g _ _ _ c.read_piece-piece.ensures _ _ c.run_piece.ensures.codes_after room _ (lowest_of_front _ _ _ fit long _ c.in_default.ensures.lowest) (omega (arith, fronts_long _ _ _ fit long)) _ c.in-Some-refused.is }
 
 pub returns-in-None : goal.returns-in-None
 returns-in-None c = let g = c.requires in
     let room : c.read_piece-piece.result.count ≤ length c.args.buffers.now.codes = search rules in
+    let long : c.read_piece-piece.result.count ≤ length c.run_piece.new.codes = search rules in
+    let fit = c.read_piece-piece.ensures.kinds_fit in
     let piece = c.read_piece-piece.ensures in
     record {
       journal_unchanged = refl;
       turned = (
         λ more. further _ _ g.passes _ _ _ g _ _ _ piece c.in-None.is 1024 (lit≤ tt) (search rules) (search rules) more,
-        turn _ _ g.passes _ _ _ g _ _ _ piece _ _ c.run_piece.ensures.codes_after room c.read_piece-piece.result.count c.in_default.ensures.lowest (omega arith) _ c.run_piece.ensures.words_after,
+        turn _ _ g.passes _ _ _ g _ _ _ piece _ _ c.run_piece.ensures.codes_after room _ (lowest_of_front _ _ _ fit long _ c.in_default.ensures.lowest) (omega (arith, fronts_long _ _ _ fit long)) _ c.run_piece.ensures.words_after,
       );
     }

@@ -15,11 +15,11 @@ check_all-found-requires-clause-ready c = let a = c.args in
     let ty = typed a.state.words _ _ _ _ _ _ _ _ _ g.0 g.1.0 g.1.1.0 q.0 q.1.0 q.1.1.0 q.1.1.1.0 g.1.1.1.1.0 g.1.1.1.1.1.0 in
     ready _ _ a.threads.now a.kinds.now a.domains.now c.in_default.ensures ty
 
-pub check_all-found-requires-clause-kinds_len : goal.check_all-found-requires-clause-kinds_len
-check_all-found-requires-clause-kinds_len c = let a = c.args in kinds_long _ _ a.threads.now a.kinds.now a.domains.now c.in_default.ensures
+pub invariant_of-named-clause-kinds_long : goal.invariant_of-named-clause-kinds_long
+invariant_of-named-clause-kinds_long c = let a = c.args in kinds_long _ _ a.threads.now a.kinds.now a.domains.now c.in_default.ensures
 
-pub check_all-found-requires-clause-domains_len : goal.check_all-found-requires-clause-domains_len
-check_all-found-requires-clause-domains_len c = let a = c.args in domains_long _ _ a.threads.now a.kinds.now a.domains.now c.in_default.ensures
+pub invariant_of-named-clause-domains_long : goal.invariant_of-named-clause-domains_long
+invariant_of-named-clause-domains_long c = let a = c.args in domains_long _ _ a.threads.now a.kinds.now a.domains.now c.in_default.ensures
 
 pub returns-in-Some : goal.returns-in-Some
 returns-in-Some c = let a = c.args in

@@ -6,4 +6,4 @@ use Rattle.journal_call.specs.Kinds.{AllSameKinds}
 use Rattle.journal_call.proofs.step_check.comparison.all_same_kinds.Given as goal
 
 abbrev pub invariant-loop-kind : goal.invariant-loop-kind
-invariant-loop-kind l = l.same ≡ true → AllSameKinds l.kinds l.codes (length l.yielded)
+invariant-loop-kind l = l.same ≡ true → AllSameKinds l.steps.kinds.now l.steps.codes.now (length l.yielded)

@@ -3,4 +3,4 @@ use Rattle.journal_call.specs.StepCheck.Stretches.{HomesOf}
 use Rattle.journal_call.proofs.step_check.comparison.homes_of.Given as goal
 
 abbrev pub invariant-loop-k : goal.invariant-loop-k
-invariant-loop-k l = HomesOf l.homes l.threads l.k l.found
+invariant-loop-k l = HomesOf l.homes l.steps.threads.now l.k l.found

@@ -7,7 +7,7 @@ use Rattle.journal_call.proofs.step_check.Wholes.{SoFar}
 use Rattle.journal_call.proofs.step_check.pieces.check_all.Given as goal
 
 abbrev pub invariant-loop-at : goal.invariant-loop-at
-invariant-loop-at l = (length l.trace ≡ 1024) × ((length l.codes ≡ 1024) × SoFar (tree_of l.tree) l.initial.state l.threads l.kinds l.domains l.state l.at)
+invariant-loop-at l = (length l.trace ≡ 1024) × ((length l.codes ≡ 1024) × SoFar (tree_of l.tree) l.initial.state l.named.threads.now l.named.kinds.now l.named.domains.now l.state l.at)
 
 abbrev pub decreases-loop-at : goal.decreases-loop-at
-decreases-loop-at l = length l.threads - l.at
+decreases-loop-at l = length l.named.threads.now - l.at
