@@ -30,12 +30,7 @@ pub fn counts_of(kinds: &[u32; 6]) -> Counts
     requires { (counts_by kinds.now).steps ≤ 65536 }
     ensures { result ≡ counts_by kinds.now }
 {
-    let stays = kinds[0];
-    let others = kinds[1];
-    let root = kinds[2];
-    let passed = kinds[3];
-    let crossed = kinds[4];
-    let leaving = kinds[5];
+    let [stays, others, root, passed, crossed, leaving] = *kinds;
     Counts {
         steps: stays + others + root + passed + crossed + leaving,
         entries: root + passed + crossed,
