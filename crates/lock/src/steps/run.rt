@@ -63,6 +63,20 @@ fn put_code(codes: &mut [u16], at: usize, kind: Kind, row: u8, domain: u8)
     }
 }
 
+// The kind of a step, given the number that reports the step.
+pub fn kind_of_code(code: u16) -> Kind
+    ensures { code % 8 < 6 → number_of_kind result ≡ code % 8 }
+{
+    match code % 8 {
+        0 => Kind::Stay,
+        1 => Kind::OtherMove,
+        2 => Kind::RootEntry,
+        3 => Kind::PassedEntry,
+        4 => Kind::CrossedEntry,
+        _ => Kind::Leaving,
+    }
+}
+
 // The domain of a step, given its thread's home and the number that reports the step. In 16 bits, so that a loop can compare many at once.
 pub fn domain_of_code(home: u16, code: u16) -> u16
     ensures { result ≡ row_domain home ((code / 8) % 16) (code / 128) }
