@@ -127,7 +127,7 @@ pub extern "C" fn hmcs_step_in_place(
         Ok(step) => StepAnswer {
             number: 0,
             place: 0,
-            kind: step.kind,
+            kind: u32::from(step.kind.number()),
             domain: step.domain,
         },
         Err(refusal) => StepAnswer {

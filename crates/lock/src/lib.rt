@@ -8,18 +8,20 @@ ghost use Rattle.model.specs.Trees.{tree_of};
 ghost use Rattle.model.specs.Refusals.{step_refusal, run_refusal};
 ghost use Rattle.model.specs.Answers.{fresh_answer, step_answer, run_answer, trace_answer};
 ghost use Rattle.refusals.specs.Reasons.{refusal_of};
-ghost use Rattle.lock.specs.Lent.{taken_first};
+ghost use Rattle.lock.specs.Lent.{TakenIs};
 ghost use Rattle.lock.specs.Steps.Running.{first_number};
 
 mod lent;
 
 use model::{Counts, FreshReply, LockState, RunReply, StepReply, TreeWords};
 use refusals::reasons::Refusal;
+use rows::kinds::Kind;
+use steps::run;
 
 // The kind and domain of a step.
 #[derive(Clone, Copy, PartialEq, Eq, Debug)]
 pub struct TakenStep {
-    pub kind: u32,
+    pub kind: Kind,
     pub domain: u32,
 }
 
@@ -55,12 +57,17 @@ pub fn step_in_place(
     thread: u16,
 ) -> Result<TakenStep, Refusal>
     ensures refused { refusal_of result ≡ step_refusal (tree_of tree.now) state.old thread }
-    ensures taken { IfOk result (λ r. r ≡ taken_first (tree_of tree.now) state.old.words thread) }
+    ensures taken { IfOk result (λ r. TakenIs r (tree_of tree.now) state.old.words thread) }
     ensures state_after { state.new ≡ (step_answer tree.now state.old thread).state }
 {
     let mut trace = [0u16];
-    let ran = lent::run_tested(tree, state, &[thread], &mut trace)?;
-    Ok(ran.first)
+    let mut codes = [0u16];
+    lent::run_tested(tree, state, &[thread], &mut trace, &mut codes)?;
+    let home = u16::from(tree.homes[usize::from(thread)]);
+    Ok(TakenStep {
+        kind: run::kind_of_code(codes[0]),
+        domain: u32::from(run::domain_of_code(home, codes[0])),
+    })
 }
 
 // The steps of a schedule on the state that the caller keeps: the counts, with the entering threads at the front of the trace; if refused, state and trace are unchanged.
@@ -75,8 +82,7 @@ pub fn run_in_place(
     ensures state_after { state.new ≡ (run_answer tree.now state.old schedule.now trace.old).state }
     ensures trace_after { trace.new ≡ trace_answer tree.now state.old schedule.now trace.old }
 {
-    let ran = lent::run_tested(tree, state, schedule, trace)?;
-    Ok(ran.counts)
+    lent::run_tested(tree, state, schedule, trace, &mut [])
 }
 
 // One step of a thread: its kind, its domain and the state after it; if refused, kind 0, domain 0 and the state unchanged.
@@ -92,7 +98,7 @@ pub fn step_lock(tree: &TreeWords, state: LockState, thread: u16) -> StepReply
     };
     match step_in_place(tree, &mut reply.state, thread) {
         Ok(step) => {
-            reply.kind = step.kind;
+            reply.kind = u32::from(step.kind.number());
             reply.domain = step.domain;
         }
         Err(refusal) => {

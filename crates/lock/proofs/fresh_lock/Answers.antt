@@ -1,5 +1,5 @@
 -- `lock::fresh_lock` meets its contract: a fresh state, whatever the tree's refusal.
-use mathlib.Core.Path.{◌∙◌, ap, sym}
+use mathlib.Core.Path.{sym}
 use native.Mathlib.Omega.{arith}
 use borrow.Author.Tests.{ne_eqb}
 use Rattle.model.specs.Refusals.{refusal, accepted}

@@ -1,6 +1,6 @@
 -- `lock::run_lock` meets its contract: the run in place, on its own state.
 use mathlib.Core.Path.{◌∙◌}
-use Rattle.refusals.proofs.Refusing.{error_numbered, ok_numbered}
+use Rattle.refusals.proofs.Refusing.{ok_numbered}
 use Rattle.lock.proofs.steps.Answering.{run_accepts, run_refuses}
 use Rattle.lock.proofs.run_lock.Goals as goal
 

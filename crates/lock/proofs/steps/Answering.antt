@@ -9,16 +9,15 @@ use lib.Dec.{eqb}
 use lib.ListN.{length, get_or}
 use borrow.Author.Tests.{ne_eqb, eq-eqb}
 use Rattle.model.specs.declared.TreeWords.{TreeWords}
-use Rattle.model.specs.declared.State.{State}
 use Rattle.model.specs.declared.Counters.{Counters}
 use Rattle.model.specs.declared.LockState.{LockState}
 use Rattle.model.specs.declared.Counts.{Counts}
 use Rattle.model.specs.declared.RunReply.{RunReply}
 use Rattle.model.specs.declared.StepReply.{StepReply}
 use Rattle.model.specs.Trees.{Tree, tree_of}
-use Rattle.model.specs.Steps.{Step, step}
+use Rattle.model.specs.Steps.{Step, step, kind_number}
 use Rattle.model.specs.Runs.{steps, state_after, counts_of, Run, run_of, run}
-use Rattle.model.specs.Counters.{lock_state, counters_after}
+use Rattle.model.specs.Counters.{counters_after}
 use Rattle.model.specs.Refusals as model
 use Rattle.model.specs.Refusals.{refusal, accepted, Test, first_refusal, entry_tests, room_tests, tree_tests, counter_tests, has_number, bad_length, bad_entry, bad_room, step_tests_before_19, step_tests, run_tests_before_19, run_tests, step_refusal, run_refusal}
 use Rattle.model.specs.Answers.{counters_after_run, first_kind, first_domain, step_reply, step_answer, run_refused, run_reply, run_buffer, run_answer, trace_answer}
@@ -33,12 +32,12 @@ use Rattle.refusals.specs.Arrays.{tree_state_tests, schedule_room_tests}
 use Rattle.refusals.proofs.Scanning.{single_hit, single_missed}
 use Rattle.refusals.proofs.Joining.{first_decides, other_decides, state_numbered}
 use Rattle.refusals.proofs.Refusing.{ok_numbered, error_numbered}
-use Rattle.lock.proofs.steps.SoFar.{counts_kinds, thread_at, below}
+use Rattle.lock.proofs.steps.SoFar.{kind_small, counts_kinds, thread_at, below}
 use Rattle.lock.proofs.steps.StepCodes.{code_kind, domain_of_code}
 use Rattle.rows.specs.Common.Standing.{row_domain}
+use Rattle.rows.specs.Kinds.{number_of_kind}
 use Rattle.lock.specs.declared.TakenStep.{TakenStep}
-use Rattle.lock.specs.declared.lent.Ran.{Ran}
-use Rattle.lock.specs.Lent.{taken_first, ran_by}
+use Rattle.lock.specs.Lent.{TakenIs}
 use Rattle.lock.specs.Steps.Running.{kinds_of, counts_by, trace_front, step_code, codes_front}
 
 -- a run that is not refused passes the tests before 19
@@ -117,23 +116,25 @@ step_reported w s i b e =
     rw (e, one_refusal (tree_of w) i s)
     (reply_reported (run_refusal (tree_of w) s (i ∷ []) 1) s (steps (tree_of w) (i ∷ []) s.words) (run_of s.words (steps (tree_of w) (i ∷ []) s.words)) (counters_after_run (tree_of w) (i ∷ []) s) refl _ refl)
 
--- what is reported for a run's first step, from its number
-pub reported_first :
-    (w : TreeWords) (s : LockState) (is : List ℕ) (room : ℕ) → (run_refusal (tree_of w) s is room).number ≡ 0 → (codes₀ codes : List ℕ) → length codes₀ ≡ 1 →
-    codes ≡ codes_front codes₀ (steps (tree_of w) is s.words) →
-    (cond (eqb (length is) 0) 0 (get_or codes 0 0 % 8) ≡ first_kind (steps (tree_of w) is s.words))
-    × (cond (eqb (length is) 0) 0 (row_domain (get_or w.homes (get_or is 0 0) 0) ((get_or codes 0 0 / 8) % 16) (get_or codes 0 0 / 128)) ≡ first_domain (steps (tree_of w) is s.words))
-unfolding steps first_kind first_domain
-reported_first w s [] room z codes₀ codes l e = (refl, refl)
-reported_first w s (i ∷ is) room z codes₀ codes l e =
-    let R = run_facts (tree_of w) s (i ∷ is) room z in
-    let x = step (tree_of w) i s.words in
-    let code : get_or codes 0 0 ≡ step_code x = ap (λ v. get_or v 0 0) e ∙ first_code codes₀ x _ (omega (arith, l)) in
-    let some = ne_eqb (length (i ∷ is)) 0 (λ z. omega arith) in (
-      rw some (ap (λ v. v % 8) code ∙ code_kind x),
-      rw some (ap (λ v. row_domain (get_or w.homes i 0) ((v / 8) % 16) (v / 128)) code
-          ∙ domain_of_code w s.words i R.form (thread_at (tree_of w) (i ∷ is) R.threads 0 (omega arith)) (below (tree_of w) (i ∷ is) R.tree R.threads 0 (omega arith))),
-    )
+-- what is reported for a step, from its number
+module _ (w : TreeWords) (s : LockState) (i room : ℕ) (z : (run_refusal (tree_of w) s (i ∷ []) room).number ≡ 0) where
+  pub thread_small : i < 256
+  thread_small = let R = run_facts (tree_of w) s (i ∷ []) room z in below (tree_of w) (i ∷ []) R.tree R.threads 0 (omega arith)
+
+  pub taken_is :
+      (codes₀ codes : List ℕ) → length codes₀ ≡ 1 → codes ≡ codes_front codes₀ (steps (tree_of w) (i ∷ []) s.words) → (q : TakenStep) →
+      (get_or codes 0 0 % 8 < 6 → number_of_kind q.kind ≡ get_or codes 0 0 % 8) →
+      q.domain ≡ row_domain (get_or w.homes i 0) ((get_or codes 0 0 / 8) % 16) (get_or codes 0 0 / 128) → TakenIs q (tree_of w) s.words i
+  unfolding steps first_kind first_domain
+  taken_is codes₀ codes l e q k d =
+      let R = run_facts (tree_of w) s (i ∷ []) room z in
+      let x = step (tree_of w) i s.words in
+      let code : get_or codes 0 0 ≡ step_code x = ap (λ v. get_or v 0 0) e ∙ first_code codes₀ x [] (omega (arith, l)) in
+      let kind : get_or codes 0 0 % 8 ≡ kind_number x.kind = ap (λ v. v % 8) code ∙ code_kind x in (
+        k (omega (arith, kind, kind_small x.kind)) ∙ kind,
+        d ∙ ap (λ v. row_domain (get_or w.homes i 0) ((v / 8) % 16) (v / 128)) code
+            ∙ domain_of_code w s.words i R.form (thread_at (tree_of w) (i ∷ []) R.threads 0 (omega arith)) thread_small,
+      )
 
 -- A STEP's reply: that of the run of its one entry
 module _ (w : TreeWords) (s : LockState) (i : ℕ) (b : List ℕ) (one : length b ≡ 1) where
@@ -147,10 +148,10 @@ module _ (w : TreeWords) (s : LockState) (i : ℕ) (b : List ℕ) (one : length 
   step_state_is = ap (λ (r : StepReply). r.state) (step_reported w s i b one)
 
 module _ (w : TreeWords) (s left : LockState) (i : ℕ) (e : left ≡ (step_answer w s i).state) where
-  pub step_passes : (q : TakenStep) → q ≡ taken_first (tree_of w) s.words i → accepted ≡ step_refusal (tree_of w) s i →
-      record { number = 0; place = 0; kind = q.kind; domain = q.domain; state = left } ≡ step_answer w s i
+  pub step_passes : (q : TakenStep) → TakenIs q (tree_of w) s.words i → accepted ≡ step_refusal (tree_of w) s i →
+      record { number = 0; place = 0; kind = number_of_kind q.kind; domain = q.domain; state = left } ≡ step_answer w s i
   unfolding step_answer step_reply
-  step_passes q f z = let p = eq-eqb (step_refusal (tree_of w) s i).number 0 (ok_numbered z) in rw (f, e, p)
+  step_passes q f z = let p = eq-eqb (step_refusal (tree_of w) s i).number 0 (ok_numbered z) in rw (f.0, f.1, e, p)
 
   pub step_refuses : (x : Refusal) → refusal (number_of x.reason) x.place ≡ step_refusal (tree_of w) s i →
       record { number = number_of x.reason; place = x.place; kind = 0; domain = 0; state = left } ≡ step_answer w s i
@@ -178,9 +179,6 @@ module _ (w : TreeWords) (s : LockState) (is b : List ℕ) where
         let n : (counts_by kinds).steps ≡ length (steps (tree_of w) is s.words) = ap (λ v. (counts_by v).steps) f ∙ ap (λ v. v.steps) (counts_kinds (steps (tree_of w) is s.words)) in
         omega (arith, n, steps_length (tree_of w) is s.words, (run_facts (tree_of w) s is (length b) z).short)
 
-    pub first_small : 0 < length is → get_or is 0 0 < 256
-    first_small l = let R = run_facts (tree_of w) s is (length b) z in below (tree_of w) is R.tree R.threads 0 l
-
     pub passed_state : (left : LockState) → left.words ≡ (run (tree_of w) is s.words).state → left.counters ≡ counters_after (tree_of w) s.counters (steps (tree_of w) is s.words) →
         left ≡ (run_answer w s is b).state
     unfolding run_answer run_reply counters_after_run
@@ -201,9 +199,9 @@ counts_run w s is kinds counts k f = rw (f, k) (counts_kinds (steps (tree_of w) 
 -- the parts of a run's reply
 module _ (w : TreeWords) (s : LockState) (is b : List ℕ) where
   module _ (z : (run_refusal (tree_of w) s is (length b)).number ≡ 0) where
-    pub passed_counts : (q : Ran) → q ≡ ran_by (tree_of w) s.words is → q.counts ≡ (run_answer w s is b).counts
+    pub passed_counts : (counts : Counts) → counts ≡ (run (tree_of w) is s.words).counts → counts ≡ (run_answer w s is b).counts
     unfolding run_answer run_reply
-    passed_counts q e = ap (λ (r : Ran). r.counts) e ∙ rw (eq-eqb (run_refusal (tree_of w) s is (length b)).number 0 z)
+    passed_counts counts e = e ∙ rw (eq-eqb (run_refusal (tree_of w) s is (length b)).number 0 z)
 
     pub run_accepts : (counts : Counts) (left : LockState) → counts ≡ (run_answer w s is b).counts → left ≡ (run_answer w s is b).state →
         record { number = 0; place = 0; counts = counts; state = left } ≡ run_answer w s is b

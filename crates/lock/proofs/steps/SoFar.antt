@@ -7,22 +7,18 @@ use native.Mathlib.Omega.{arith}
 use native.Mathlib.Nat.{add-zero}
 use native.Mathlib.Numerals.{add-one}
 use lib.ListN.{get_or, length, take, drop, set, length-set, length-append}
-use lib.Dec.{eqb}
-use borrow.Author.Tests.{eqb-true}
 use lib.Seq.{length-take-le, take-suc, take_all, drop-cons, set-append_seam}
 use Rattle.model.specs.declared.State.{State}
 use Rattle.model.specs.Trees.{Tree}
-use Rattle.model.specs.States.{place, store_numbers}
+use Rattle.model.specs.States.{place}
 use Rattle.model.specs.Refusals.{tree_refusal}
 use Rattle.model.specs.Steps.{Kind, stay, other, root_entry, passed_entry, crossed_entry, leaving, kind_number, is_kind, is_entry, Step, row, step}
 use Rattle.model.specs.Runs.{steps, state_after, how_many, entering, counts_of, run_of, run}
-use Rattle.model.specs.Laws.{AllThreads, SixteenBit, Formed, FormLaw, KindLaw}
+use Rattle.model.specs.Laws.{AllThreads, SixteenBit, Formed, FormLaw}
 use Rattle.model.proofs.Trees.Accepted.{accepted}
 use Rattle.model.proofs.Laws.Runs.{steps_join, steps_length, how_many_join, entering_join, state_after_join, entries_all}
 use Rattle.model.proofs.Laws.Form.{form_law}
-use Rattle.model.proofs.Laws.Kinds.{kind_law}
 use Rattle.model.proofs.Counted.{how_many_most}
-use Rattle.model.proofs.Tests.{by_test}
 use Rattle.rows.specs.declared.common.rows.Moved.{Moved}
 use Rattle.rows.specs.Kinds.{number_of_kind}
 use Rattle.rows.specs.Common.Rows.{with_place_words, Done}

@@ -4,7 +4,6 @@ use mathlib.Core.Bool.{Bool, true, false, not, cond}
 use Prim.Native.Nat.{ℕ, ◌<◌}
 use Rattle.model.specs.Counters.{lock_state, fresh_counters, fresh_lock}
 use native.Mathlib.Nat.{mod-eq_of_lt}
-use native.Mathlib.Omega.{arith}
 use lib.Dec.{eqb}
 use Rattle.lock.specs.Steps.Running.{fresh_from, first_number}
 use Rattle.model.specs.declared.TreeWords.{TreeWords}

@@ -1,10 +1,8 @@
 -- A run by its steps: what is counted, traced and reported.
 use Rattle.std.specs.Prelude.{cond, List, [], ◌∷◌, ◌++◌, ℕ, ◌+◌, ◌*◌, eqb, ltb, get_or, set, length, drop}
-use Rattle.model.specs.declared.PlaceArrays.{PlaceArrays}
-use Rattle.model.specs.declared.PlaceWords.{PlaceWords}
 use Rattle.model.specs.declared.State.{State}
 use Rattle.model.specs.Places.{words_of}
-use Rattle.model.specs.States.{store_numbers, fresh_words, with_ticket, with_grant}
+use Rattle.model.specs.States.{fresh_words, with_ticket, with_grant}
 use Rattle.model.specs.declared.Counts.{Counts}
 use Rattle.model.specs.Steps.{stay, other, root_entry, passed_entry, crossed_entry, leaving, kind_number, is_kind, Step}
 use Rattle.model.specs.Runs.{how_many, Run}

@@ -30,12 +30,7 @@ pub fn counts_of(kinds: &[u32; 6]) -> Counts
     requires { (counts_by kinds.now).steps ≤ 65536 }
     ensures { result ≡ counts_by kinds.now }
 {
-    let stays = kinds[0];
-    let others = kinds[1];
-    let root = kinds[2];
-    let passed = kinds[3];
-    let crossed = kinds[4];
-    let leaving = kinds[5];
+    let [stays, others, root, passed, crossed, leaving] = *kinds;
     Counts {
         steps: stays + others + root + passed + crossed + leaving,
         entries: root + passed + crossed,
@@ -65,6 +60,20 @@ fn put_code(codes: &mut [u16], at: usize, kind: Kind, row: u8, domain: u8)
 {
     if at < codes.len() {
         codes[at] = u16::from(kind.number()) + 8 * u16::from(row) + 128 * u16::from(domain);
+    }
+}
+
+// The kind of a step, given the number that reports the step.
+pub fn kind_of_code(code: u16) -> Kind
+    ensures { code % 8 < 6 → number_of_kind result ≡ code % 8 }
+{
+    match code % 8 {
+        0 => Kind::Stay,
+        1 => Kind::OtherMove,
+        2 => Kind::RootEntry,
+        3 => Kind::PassedEntry,
+        4 => Kind::CrossedEntry,
+        _ => Kind::Leaving,
     }
 }
 

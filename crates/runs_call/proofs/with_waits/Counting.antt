@@ -22,6 +22,8 @@ use Rattle.waits.specs.Attempts.{swaps_at, draws, begins_from}
 use Rattle.runs_call.specs.WithWaits.Tallies.{first, begins_number, mark_with, finishes, wait_of, noted, Tallies}
 use Rattle.runs_call.proofs.with_waits.Tables.{turn, mark_small, attempts_small, total_small}
 use Rattle.rows.specs.Common.Standing.{is_entry_number}
+use Rattle.rows.specs.declared.kinds.Kind.{Kind}
+use Rattle.rows.specs.Kinds.{number_of_kind}
 use Rattle.lock.specs.Steps.Running.{step_code}
 use Rattle.runs_call.specs.WithWaits.Waiting.{ticket_home, mark_at, Fits, Counting, Countable, Counted}
 use Rattle.lock.proofs.steps.SoFar.{next_step, thread_at, below, kind_small, entry_number, at_most}
@@ -90,9 +92,12 @@ place_of_code : (x : Step) → step_code x / 8 ≡ number_of x.place
 unfolding step_code
 place_of_code x = let h = kind_small x.kind in omega arith
 
-kind_by_code : (x : Step) → is_entry x.kind ≡ is_entry_number (step_code x % 8)
+kind_by_code : (x : Step) (code : ℕ) (k : Kind) → code ≡ step_code x → (code % 8 < 6 → number_of_kind k ≡ code % 8) → is_entry x.kind ≡ is_entry_number (number_of_kind k)
 unfolding step_code
-kind_by_code x = let h = kind_small x.kind in let e : step_code x % 8 ≡ kind_number x.kind = omega arith in rw e (sym (entry_number x.kind))
+kind_by_code x code k c by =
+    let h = kind_small x.kind in
+    let e : code % 8 ≡ kind_number x.kind = omega (arith, c) in
+    rw (by (omega (arith, e, h)), e) (sym (entry_number x.kind))
 
 home_at : (w : TreeWords) (i : ℕ) → i < (tree_of w).threads → (tree_of w).home i ≡ get_or w.homes i 0
 unfolding tree_of read_word
@@ -152,14 +157,14 @@ module _ (w : TreeWords) (is codes M₀ A₀ W₀ L₀ : List ℕ) (n₀ : ℕ) 
 
     pub going_turn :
         (b e : Bool) → b ≡ begins_number (ticket_home w.ticket_root (get_or w.homes (get_or is k 0) 0)) (get_or w.homes (get_or is k 0) 0) (get_or codes k 0 / 8) →
-        e ≡ is_entry_number (get_or codes k 0 % 8) → (M' A' W' L' : List ℕ) →
+        (kd : Kind) → (get_or codes k 0 % 8 < 6 → number_of_kind kd ≡ get_or codes k 0 % 8) → e ≡ is_entry_number (number_of_kind kd) → (M' A' W' L' : List ℕ) →
         (let at = get_or is k 0 in
         let mark = mark_at M at n b in
         let f = finishes e mark in
         M' ≡ set M at (cond e 0 mark) → A' ≡ noted f A at (get_or A at 0 + 1) → W' ≡ noted f W at (get_or W at 0 + wait_of n mark) → L' ≡ noted f L at (max (get_or L at 0) (wait_of n mark)) →
         CountedSoFar M' A' W' L' (n + cond e 1 0) (k + 1))
     unfolding step
-    going_turn b e eb ee M' A' W' L' em ea ew el =
+    going_turn b e eb kd ek ee M' A' W' L' em ea ew el =
         record {
           within = omega arith;
           few = omega (arith, G.few, at_most e);
@@ -169,7 +174,7 @@ module _ (w : TreeWords) (is codes M₀ A₀ W₀ L₀ : List ℕ) (n₀ : ℕ) 
               let x = step t i (state_after s (steps t (take k is) s)) in
               let code : get_or codes k 0 ≡ step_code x = g.each_code k h in
               let begins : begins_from t i x.place ≡ b = begins_by_code w i x thread_known ∙ sym (eb ∙ ap (λ v. begins_number (ticket_home w.ticket_root (get_or w.homes i 0)) (get_or w.homes i 0) (v / 8)) code) in
-              let enters : is_entry x.kind ≡ e = kind_by_code x ∙ sym (ee ∙ ap (λ v. is_entry_number (v % 8)) code) in
+              let enters : is_entry x.kind ≡ e = kind_by_code x _ kd code ek ∙ sym ee in
               let more : done ++ steps t (take (k + 1) is) s ≡ (done ++ steps t (take k is) s) ++ (x ∷ []) =
               ap (λ (r : List Step). done ++ r) (next_step t is [] s k h) ∙ sym (append_assoc done (steps t (take k is) s) (x ∷ [])) in
               rw more (turn t us _ M A W L n (G.tallies us done s g) x i refl thread_small b e begins enters M' A' W' L' em ea ew el));
@@ -178,17 +183,17 @@ module _ (w : TreeWords) (is codes M₀ A₀ W₀ L₀ : List ℕ) (n₀ : ℕ) 
     -- the same with the numbers that the code has read
     pub counted_read :
         (at : ℕ) → at ≡ get_or is k 0 → (th b e : Bool) → th ≡ ticket_home w.ticket_root (get_or w.homes at 0) →
-        b ≡ begins_number th (get_or w.homes at 0) (get_or codes k 0 / 8) → e ≡ is_entry_number (get_or codes k 0 % 8) → (M' A' W' L' : List ℕ) (n' : ℕ) → n' ≡ n + cond e 1 0 →
+        b ≡ begins_number th (get_or w.homes at 0) (get_or codes k 0 / 8) → (kd : Kind) → (get_or codes k 0 % 8 < 6 → number_of_kind kd ≡ get_or codes k 0 % 8) → e ≡ is_entry_number (number_of_kind kd) → (M' A' W' L' : List ℕ) (n' : ℕ) → n' ≡ n + cond e 1 0 →
         (let mark = mark_at M at n b in
         let f = finishes e mark in
         M' ≡ set M at (cond e 0 mark) → A' ≡ noted f A at (get_or A at 0 + 1) → W' ≡ noted f W at (get_or W at 0 + wait_of n mark) → L' ≡ noted f L at (max (get_or L at 0) (wait_of n mark)) →
         CountedSoFar M' A' W' L' n' (k + 1))
-    counted_read at ei th b e et eb ee M' A' W' L' n' en em ea ew el =
+    counted_read at ei th b e et eb kd ek ee M' A' W' L' n' en em ea ew el =
         rw en
         (going_turn b e
         (eb ∙ ap (λ v. begins_number v (get_or w.homes at 0) (get_or codes k 0 / 8)) et
         ∙ ap (λ v. begins_number (ticket_home w.ticket_root (get_or w.homes v 0)) (get_or w.homes v 0) (get_or codes k 0 / 8)) ei)
-        ee M' A' W' L' (em ∙ ap (λ v. set M v (cond e 0 (mark_at M v n b))) ei)
+        kd ek ee M' A' W' L' (em ∙ ap (λ v. set M v (cond e 0 (mark_at M v n b))) ei)
         (ea ∙ ap (λ v. noted (finishes e (mark_at M v n b)) A v (get_or A v 0 + 1)) ei)
         (ew ∙ ap (λ v. noted (finishes e (mark_at M v n b)) W v (get_or W v 0 + wait_of n (mark_at M v n b))) ei)
         (el ∙ ap (λ v. noted (finishes e (mark_at M v n b)) L v (max (get_or L v 0) (wait_of n (mark_at M v n b)))) ei))

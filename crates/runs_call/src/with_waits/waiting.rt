@@ -5,13 +5,13 @@ ghost use Rattle.model.specs.Trees.{tree_of};
 ghost use Rattle.model.specs.Runs.{steps, run};
 ghost use Rattle.model.specs.Counters.{counters_after, most_counted};
 ghost use Rattle.model.specs.Refusals.{run_refusal};
-ghost use Rattle.rows.specs.Common.Standing.{is_entry_number};
 ghost use Rattle.waits.specs.Attempts.{under_way_below};
 ghost use Rattle.waits.specs.Rows.{row_with, capped, all_rows_from};
 ghost use Rattle.runs_call.specs.WithWaits.Tallies.{first, begins_number, mark_with, mark_of, number_of, finishes, wait_of, noted, rows_by, numbers_by};
 ghost use Rattle.lock.specs.Steps.Running.{kinds_of, counts_by, trace_front};
 ghost use Rattle.runs_call.specs.WithWaits.Waiting.{kinds_added, ticket_home, mark_at, Fits, Countable, Counted, Small, MarksOf, HandedIn, MarksFit};
 
+use lock::steps::run;
 use model::{LockState, TreeWords};
 use refusals::of_runs::MOST_COUNTED;
 
@@ -77,13 +77,6 @@ fn number_of(entered: u64, mark: u64) -> u64
         return 0;
     }
     entered + 2 - mark
-}
-
-// Whether the kind with this number is an entry.
-fn is_entry(kind: u16) -> bool
-    ensures { result ≡ is_entry_number kind }
-{
-    matches!(kind, 2 | 3 | 4)
 }
 
 // Writes the five numbers of a row at a position.
@@ -152,7 +145,7 @@ impl Tally {
             let code = codes[k];
             let home = tree.homes[at];
             let begins = begins_at(is_ticket_home(tree.ticket_root, home), home, code / 8);
-            let enters = is_entry(code % 8);
+            let enters = run::kind_of_code(code).is_entry();
             self.note(at, entered, begins, enters);
             entered += u64::from(enters);
         }
@@ -239,7 +232,7 @@ pub(crate) fn run_counted(
     ensures under_way_after { under_way.new ≡ sets (replicate 256 0) 0 (under_way_below (tree_of tree.now) under_way.old (tree_of tree.now).threads (steps (tree_of tree.now) schedule.now state.old.words)) }
     ensures counters_after { state.new.counters ≡ counters_after (tree_of tree.now) state.old.counters (steps (tree_of tree.now) schedule.now state.old.words) }
 {
-    lock::steps::run::fits_its_type(*state);
+    run::fits_its_type(*state);
     let mut tally = Tally::new(under_way);
     let mut counts = [0u32; 6];
     let mut entered: u64 = FIRST;
@@ -250,7 +243,7 @@ pub(crate) fn run_counted(
         let mut codes = [0u16; 1024];
         let mut piece = [0u32; 6];
         let written = (entered - FIRST) as usize;
-        lock::steps::run::run_lent(
+        run::run_lent(
             tree,
             state,
             &schedule[from..end],

@@ -1,9 +1,7 @@
 -- `lock::steps::run::run_lent` meets its contract: the entries so far have given the state, the trace, how many steps are of each kind and the counters of the domains.
 use mathlib.Core.Path.{sym, ap}
 use Rattle.model.specs.declared.PlaceArrays.{PlaceArrays}
-use Rattle.model.specs.States.{store_numbers}
 use Rattle.rows.proofs.step.TakenHere.{done_here}
-use Rattle.rows.specs.Kinds.{number_of_kind}
 use native.Mathlib.Omega.{arith}
 use Rattle.model.specs.Trees.{tree_of}
 use Rattle.model.proofs.Laws.Calls.{early_facts}
@@ -16,7 +14,6 @@ use Rattle.lock.proofs.steps.Turns.{thread_small, ready}
 use Rattle.rows.proofs.common.Shown.{clear_none}
 use Rattle.lock.proofs.steps.StepCounts.{step_counted}
 use Rattle.lock.proofs.steps.Looking.{entries_room, tenures_room, marks_cleared, shown_for, looked_few, home_is, raise_marked}
-use borrow.Author.Rules.{rules}
 use Rattle.lock.proofs.steps.run.run_lent.Goals as goal
 
 pub loop-k-init : goal.loop-k-init

@@ -24,7 +24,7 @@ overflow_add-entered c = let more : c.from-entered.result ≤ 1 = rw (c.from-ent
 
 pub loop-k-preserved : goal.loop-k-preserved
 loop-k-preserved c = counted_read _ _ _ _ _ _ _ _ _ _ _ _ _ _ c.loop-k.invariant c.loop-k-test.true c.requires _ c.from-at.ensures _ _ _
-    c.is_ticket_home.ensures c.begins_at-begins.ensures c.is_entry-enters.ensures _ _ _ _ _ (ap (λ v. c.loop-k.entered + v) (c.from-entered.ensures ∙ one_if _))
+    c.is_ticket_home.ensures c.begins_at-begins.ensures _ c.kind_of_code.ensures c.is_entry-enters.ensures _ _ _ _ _ (ap (λ v. c.loop-k.entered + v) (c.from-entered.ensures ∙ one_if _))
     c.note.ensures.marks_after c.note.ensures.attempts_after c.note.ensures.totals_after c.note.ensures.longest_after
 
 pub returns : goal.returns
