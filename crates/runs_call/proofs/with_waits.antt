@@ -4,5 +4,6 @@ pub mod Tallying
 pub mod Tables
 pub mod Counting
 pub mod Writing
+pub mod Kept
 pub mod Pieces
 pub mod Waited

@@ -1,16 +1,15 @@
 -- A row of many schedules: the schedule's tests and the run from fresh words give the row of its run alone.
-use mathlib.Core.Path.{◌≡◌, refl, sym, ap, ◌∙◌}
+use mathlib.Core.Path.{◌≡◌, sym, ap, ◌∙◌}
 use mathlib.Core.List.{List}
 use Prim.Native.Nat.{ℕ, ◌≤◌}
 use native.Mathlib.Omega.{arith}
 use lib.ListN.{length, replicate, length-replicate}
 use Rattle.model.specs.declared.TreeWords.{TreeWords}
-use Rattle.model.specs.declared.State.{State}
 use Rattle.model.specs.declared.Counts.{Counts}
 use Rattle.model.specs.Trees.{tree_of}
 use Rattle.model.specs.States.{fresh_words}
-use Rattle.model.specs.Counters.{lock_state, fresh_counters, fresh_lock}
-use Rattle.model.specs.Runs.{steps, run}
+use Rattle.model.specs.Counters.{fresh_lock}
+use Rattle.model.specs.Runs.{steps}
 use Rattle.model.specs.Refusals.{Refusal, refusal, accepted, first_refusal, bad_entry, tree_refusal, run_tests_before_19, run_refusal}
 use Rattle.model.specs.Answers.{no_counts, run_reply, run_answer}
 use Rattle.model.proofs.Laws.Refusals.{accepted_number}
@@ -22,7 +21,7 @@ use Rattle.refusals.specs.Arrays.{threads_in, schedule_room_tests}
 use Rattle.schedules.specs.Rows.{alone, row_of}
 use Rattle.runs_call.specs.ManySchedules.Numbers.{row_numbers}
 use Rattle.schedules.proofs.Alone.{schedule_decides}
-use Rattle.lock.specs.Steps.Running.{kinds_of, counts_by, trace_front}
+use Rattle.lock.specs.Steps.Running.{kinds_of, counts_by}
 use borrow.Author.Tests.{eq-eqb}
 use Rattle.lock.proofs.steps.Answering.{refused_state, run_refuses, kinds_few, counts_run}
 

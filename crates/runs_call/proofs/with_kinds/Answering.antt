@@ -11,13 +11,12 @@ use lib.Seq.{get_or-take, get_or-drop, ext_get_or}
 use borrow.Author.Tests.{eq-eqb, ne_eqb, ltb-true, ltb-false}
 use Rattle.model.specs.declared.TreeWords.{TreeWords}
 use Rattle.model.specs.declared.State.{State}
-use Rattle.model.specs.declared.Counters.{Counters}
 use Rattle.model.specs.declared.Counts.{Counts}
 use Rattle.model.specs.declared.LockState.{LockState}
 use Rattle.model.specs.Trees.{Tree, tree_of}
 use Rattle.model.specs.Steps.{kind_number, Step, step}
 use Rattle.model.specs.Runs.{steps, state_after, counts_of, run_of, run}
-use Rattle.model.specs.Counters.{lock_state, counters_after}
+use Rattle.model.specs.Counters.{counters_after}
 use Rattle.model.specs.Refusals.{Refusal, refusal, run_refusal}
 use Rattle.model.specs.Answers.{counters_after_run, no_counts, run_reply, run_buffer}
 use Rattle.model.specs.Laws.{Typed, Formed, FormLaw}
@@ -30,17 +29,15 @@ use Rattle.refusals.specs.declared.reasons.Refusal as refusals
 use Rattle.refusals.specs.Reasons.{number_of}
 use Rattle.refusals.proofs.Refusing.{error_numbered}
 use Rattle.schedules.specs.Answers.{row_buffer}
-use Rattle.lock.specs.Steps.Running.{kinds_of, counts_by, trace_front, step_code, codes_front}
-use Rattle.lock.proofs.steps.Answering as steps_proofs
+use Rattle.lock.specs.Steps.Running.{trace_front, step_code, codes_front}
 use Rattle.lock.proofs.steps.SoFar.{thread_at, below}
 use Rattle.lock.proofs.steps.StepCodes.{code_kind, domain_of_code}
 use Rattle.lock.proofs.steps.Reporting.{reported_front_length}
-use Rattle.kinds.specs.declared.KindsReply.{KindsReply}
-use Rattle.kinds.specs.Answers.{kinds_refusal, with_rows, kinds_reply, refused_by, kinds_answer, kinds_trace, kinds_rows}
-use Rattle.kinds.specs.Laws.{row_at, RowLaw, KindsRunLaw, KindsBufferLaw}
+use Rattle.kinds.specs.Answers.{kinds_refusal, kinds_reply, refused_by, kinds_answer, kinds_trace, kinds_rows}
+use Rattle.kinds.specs.Laws.{row_at, RowLaw, KindsBufferLaw}
 use Rattle.kinds.proofs.Reporting.{threads_taken}
 use Rattle.kinds.proofs.Refusing.{early_passes, early_zero}
-use Rattle.kinds.proofs.Buffers.{same_refusal, row_law, kinds_buffer_law, kinds_run_law}
+use Rattle.kinds.proofs.Buffers.{same_refusal, row_law, kinds_buffer_law}
 use Rattle.runs_call.specs.WithKinds.Spreading.{ThreadsFit, Spread}
 
 -- WHAT THE LOOP REPORTED for each step, and what it left unchanged

@@ -8,7 +8,8 @@ use native.Mathlib.Decide.{ℕ_discrete}
 use lib.Dec.{eqb}
 use mir.Val.{bool_byte as from_bool}
 use lib.ListN.{get_or, length, take, set}
-use lib.Seq.{take_all}
+use Rattle.runs_call.proofs.with_waits.Kept.{nothing, mark_read, attempts_read, total_read, longest_read}
+use lib.Seq.{take_all, set-get_or, map-set}
 use borrow.Author.Tests.{eq-eqb, ne_eqb, lt-ltb, le-leb}
 use Rattle.model.specs.declared.TreeWords.{TreeWords}
 use Rattle.model.specs.declared.State.{State}
@@ -25,7 +26,8 @@ use Rattle.rows.specs.Common.Standing.{is_entry_number}
 use Rattle.rows.specs.declared.kinds.Kind.{Kind}
 use Rattle.rows.specs.Kinds.{number_of_kind}
 use Rattle.lock.specs.Steps.Running.{step_code}
-use Rattle.runs_call.specs.WithWaits.Waiting.{ticket_home, mark_at, Fits, Counting, Countable, Counted}
+use Rattle.runs_call.specs.WithWaits.Waiting.{ticket_home, mark_at, marks_of, attempts_of, totals_of, longest_of, tally_noted, Fits, Counting, Countable, Counted}
+use Rattle.runs_call.specs.declared.with_waits.waiting.ThreadTally.{ThreadTally}
 use Rattle.lock.proofs.steps.SoFar.{next_step, thread_at, below, kind_small, entry_number, at_most}
 
 -- a test as a number
@@ -113,25 +115,42 @@ begins_by_code :
 unfolding begins_number tree_of
 begins_by_code w i x h = begins_by (tree_of w) i (get_or w.homes i 0) x.place (home_at w i h) ∙ rw (place_of_code x, draws_number x.place, swaps_number (get_or w.homes i 0) x.place)
 
+-- a store of what is there already changes nothing
+set_if : (f : Bool) (l : List ℕ) (at v : ℕ) → set l at (cond f v (get_or l at 0)) ≡ noted f l at v
+set_if true l at v = refl
+set_if false l at v = set-get_or l at 0
+
 -- A PIECE, one step after another
-module _ (w : TreeWords) (is codes M₀ A₀ W₀ L₀ : List ℕ) (n₀ : ℕ) where
+module _ (w : TreeWords) (is codes : List ℕ) (K₀ : List ThreadTally) (n₀ : ℕ) where
   abbrev t : Tree
   t = tree_of w
 
   abbrev Given : List ℕ → List Step → State → Type 0
-  Given us done s = Counting t is codes M₀ A₀ W₀ L₀ n₀ us done s
+  Given us done s = Counting t is codes (marks_of K₀) (attempts_of K₀) (totals_of K₀) (longest_of K₀) n₀ us done s
 
   -- the first k steps are counted
-  pub record CountedSoFar (M A W L : List ℕ) (n k : ℕ) : Type 0 where
+  pub record CountedSoFar (K : List ThreadTally) (n k : ℕ) : Type 0 where
     pub within : k ≤ length is
     pub few : n ≤ n₀ + k
-    pub tallies : (us : List ℕ) (done : List Step) (s : State) → Given us done s → Tallies t us (done ++ steps t (take k is) s) M A W L n
+    pub tallies : (us : List ℕ) (done : List Step) (s : State) → Given us done s → Tallies t us (done ++ steps t (take k is) s) (marks_of K) (attempts_of K) (totals_of K) (longest_of K) n
 
-  pub counted_start : CountedSoFar M₀ A₀ W₀ L₀ n₀ 0
+  pub counted_start : CountedSoFar K₀ n₀ 0
   unfolding steps
   counted_start = record { within = omega arith; few = omega arith; tallies = λ us done s g. rw (append-nil done) g.tallied }
 
-  module _ (M A W L : List ℕ) (n k : ℕ) (G : CountedSoFar M A W L n k) (h : k < length is) (C : Countable t is codes M₀ A₀ W₀ L₀ n₀) where
+  module _ (K : List ThreadTally) (n k : ℕ) (G : CountedSoFar K n k) (h : k < length is) (C : Countable t is codes K₀ n₀) where
+    abbrev M : List ℕ
+    M = marks_of K
+
+    abbrev A : List ℕ
+    A = attempts_of K
+
+    abbrev W : List ℕ
+    W = totals_of K
+
+    abbrev L : List ℕ
+    L = longest_of K
+
     pub thread_known : get_or is k 0 < t.threads
     thread_known = thread_at t is C.counting.threads k h
 
@@ -144,27 +163,30 @@ module _ (w : TreeWords) (is codes M₀ A₀ W₀ L₀ : List ℕ) (n₀ : ℕ) 
     pub entered_few : n ≤ first + 65536
     entered_few = omega (arith, G.few, C.counting.short)
 
-    pub note_fits : Fits M A W (get_or is k 0) n
+    pub note_fits : Fits (get_or K (get_or is k 0) nothing) n
     note_fits =
         let T = G.tallies C.under_way C.done C.state C.counting in
         record {
-          place = thread_small;
           few = entered_few;
-          mark = mark_small t C.under_way _ M A W L n T (get_or is k 0) thread_small;
-          attempts_few = omega (arith, attempts_small t C.under_way _ M A W L n T (get_or is k 0) thread_small, entered_few);
-          total_small = total_small t C.under_way _ M A W L n T entered_few (get_or is k 0) thread_small;
+          mark = omega (arith, mark_read K (get_or is k 0), mark_small t C.under_way _ M A W L n T (get_or is k 0) thread_small);
+          attempts_few = omega (arith, attempts_read K (get_or is k 0), attempts_small t C.under_way _ M A W L n T (get_or is k 0) thread_small, entered_few);
+          total_small = rw (sym (mark_read K (get_or is k 0)), sym (total_read K (get_or is k 0))) (total_small t C.under_way _ M A W L n T entered_few (get_or is k 0) thread_small);
         }
 
     pub going_turn :
         (b e : Bool) → b ≡ begins_number (ticket_home w.ticket_root (get_or w.homes (get_or is k 0) 0)) (get_or w.homes (get_or is k 0) 0) (get_or codes k 0 / 8) →
-        (kd : Kind) → (get_or codes k 0 % 8 < 6 → number_of_kind kd ≡ get_or codes k 0 % 8) → e ≡ is_entry_number (number_of_kind kd) → (M' A' W' L' : List ℕ) →
-        (let at = get_or is k 0 in
-        let mark = mark_at M at n b in
-        let f = finishes e mark in
-        M' ≡ set M at (cond e 0 mark) → A' ≡ noted f A at (get_or A at 0 + 1) → W' ≡ noted f W at (get_or W at 0 + wait_of n mark) → L' ≡ noted f L at (max (get_or L at 0) (wait_of n mark)) →
-        CountedSoFar M' A' W' L' (n + cond e 1 0) (k + 1))
+        (kd : Kind) → (get_or codes k 0 % 8 < 6 → number_of_kind kd ≡ get_or codes k 0 % 8) → e ≡ is_entry_number (number_of_kind kd) → (K' : List ThreadTally) →
+        K' ≡ set K (get_or is k 0) (tally_noted b e n (get_or K (get_or is k 0) nothing)) → CountedSoFar K' (n + cond e 1 0) (k + 1)
     unfolding step
-    going_turn b e eb kd ek ee M' A' W' L' em ea ew el =
+    going_turn b e eb kd ek ee K' eK =
+        let at = get_or is k 0 in
+        let r = tally_noted b e n (get_or K at nothing) in
+        let m = mark_at M at n b in
+        let f = finishes e m in
+        let em : marks_of K' ≡ set M at (cond e 0 m) = ap marks_of eK ∙ map-set (λ q. q.mark) K at r ∙ rw (sym (mark_read K at)) refl in
+        let ea : attempts_of K' ≡ noted f A at (get_or A at 0 + 1) = ap attempts_of eK ∙ map-set (λ q. q.attempts) K at r ∙ rw (sym (mark_read K at), sym (attempts_read K at)) (set_if f A at (get_or A at 0 + 1)) in
+        let ew : totals_of K' ≡ noted f W at (get_or W at 0 + wait_of n m) = ap totals_of eK ∙ map-set (λ q. q.total) K at r ∙ rw (sym (mark_read K at), sym (total_read K at)) (set_if f W at (get_or W at 0 + wait_of n m)) in
+        let el : longest_of K' ≡ noted f L at (max (get_or L at 0) (wait_of n m)) = ap longest_of eK ∙ map-set (λ q. q.longest) K at r ∙ rw (sym (mark_read K at), sym (longest_read K at)) (set_if f L at (max (get_or L at 0) (wait_of n m))) in
         record {
           within = omega arith;
           few = omega (arith, G.few, at_most e);
@@ -177,26 +199,20 @@ module _ (w : TreeWords) (is codes M₀ A₀ W₀ L₀ : List ℕ) (n₀ : ℕ) 
               let enters : is_entry x.kind ≡ e = kind_by_code x _ kd code ek ∙ sym ee in
               let more : done ++ steps t (take (k + 1) is) s ≡ (done ++ steps t (take k is) s) ++ (x ∷ []) =
               ap (λ (r : List Step). done ++ r) (next_step t is [] s k h) ∙ sym (append_assoc done (steps t (take k is) s) (x ∷ [])) in
-              rw more (turn t us _ M A W L n (G.tallies us done s g) x i refl thread_small b e begins enters M' A' W' L' em ea ew el));
+              rw more (turn t us _ M A W L n (G.tallies us done s g) x i refl thread_small b e begins enters (marks_of K') (attempts_of K') (totals_of K') (longest_of K') em ea ew el));
         }
 
     -- the same with the numbers that the code has read
     pub counted_read :
         (at : ℕ) → at ≡ get_or is k 0 → (th b e : Bool) → th ≡ ticket_home w.ticket_root (get_or w.homes at 0) →
-        b ≡ begins_number th (get_or w.homes at 0) (get_or codes k 0 / 8) → (kd : Kind) → (get_or codes k 0 % 8 < 6 → number_of_kind kd ≡ get_or codes k 0 % 8) → e ≡ is_entry_number (number_of_kind kd) → (M' A' W' L' : List ℕ) (n' : ℕ) → n' ≡ n + cond e 1 0 →
-        (let mark = mark_at M at n b in
-        let f = finishes e mark in
-        M' ≡ set M at (cond e 0 mark) → A' ≡ noted f A at (get_or A at 0 + 1) → W' ≡ noted f W at (get_or W at 0 + wait_of n mark) → L' ≡ noted f L at (max (get_or L at 0) (wait_of n mark)) →
-        CountedSoFar M' A' W' L' n' (k + 1))
-    counted_read at ei th b e et eb kd ek ee M' A' W' L' n' en em ea ew el =
+        b ≡ begins_number th (get_or w.homes at 0) (get_or codes k 0 / 8) → (kd : Kind) → (get_or codes k 0 % 8 < 6 → number_of_kind kd ≡ get_or codes k 0 % 8) → e ≡ is_entry_number (number_of_kind kd) → (K' : List ThreadTally) (n' : ℕ) → n' ≡ n + cond e 1 0 →
+        K' ≡ set K at (tally_noted b e n (get_or K at nothing)) → CountedSoFar K' n' (k + 1)
+    counted_read at ei th b e et eb kd ek ee K' n' en eK =
         rw en
         (going_turn b e
         (eb ∙ ap (λ v. begins_number v (get_or w.homes at 0) (get_or codes k 0 / 8)) et
         ∙ ap (λ v. begins_number (ticket_home w.ticket_root (get_or w.homes v 0)) (get_or w.homes v 0) (get_or codes k 0 / 8)) ei)
-        kd ek ee M' A' W' L' (em ∙ ap (λ v. set M v (cond e 0 (mark_at M v n b))) ei)
-        (ea ∙ ap (λ v. noted (finishes e (mark_at M v n b)) A v (get_or A v 0 + 1)) ei)
-        (ew ∙ ap (λ v. noted (finishes e (mark_at M v n b)) W v (get_or W v 0 + wait_of n (mark_at M v n b))) ei)
-        (el ∙ ap (λ v. noted (finishes e (mark_at M v n b)) L v (max (get_or L v 0) (wait_of n (mark_at M v n b)))) ei))
+        kd ek ee K' (eK ∙ ap (λ v. set K v (tally_noted b e n (get_or K v nothing))) ei))
 
-  pub counted_ends : (M A W L : List ℕ) (n k : ℕ) → CountedSoFar M A W L n k → length is ≤ k → Counted t is codes M₀ A₀ W₀ L₀ n₀ M A W L n
-  counted_ends M A W L n k G h = record { counted = λ us done s g. subst (λ (r : List ℕ). Tallies t us (done ++ steps t r s) M A W L n) (take_all k is h) (G.tallies us done s g) }
+  pub counted_ends : (K : List ThreadTally) (n k : ℕ) → CountedSoFar K n k → length is ≤ k → Counted t is codes K₀ n₀ K n
+  counted_ends K n k G h = record { counted = λ us done s g. subst (λ (r : List ℕ). Tallies t us (done ++ steps t r s) (marks_of K) (attempts_of K) (totals_of K) (longest_of K) n) (take_all k is h) (G.tallies us done s g) }

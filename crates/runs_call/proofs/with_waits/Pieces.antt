@@ -30,7 +30,8 @@ use Rattle.waits.specs.Rows.{all_rows_from}
 use Rattle.runs_call.specs.WithWaits.Tallies.{first, Tallies, rows_by, numbers_by}
 use Rattle.runs_call.proofs.with_waits.Tables.{start, mark_small, attempts_small, rows_end, numbers_end}
 use Rattle.lock.specs.Steps.Running.{kinds_of, counts_by, trace_front, step_code, codes_front}
-use Rattle.runs_call.specs.WithWaits.Waiting.{kinds_added, Counting, Countable, Counted, Small, MarksOf, HandedIn, MarksFit}
+use Rattle.runs_call.specs.WithWaits.Waiting.{kinds_added, marks_of, attempts_of, totals_of, longest_of, Counting, Countable, Counted, Small, MarksOf, HandedIn, MarksFit}
+use Rattle.runs_call.specs.declared.with_waits.waiting.ThreadTally.{ThreadTally}
 use Rattle.lock.proofs.steps.SoFar.{counts_kinds}
 use Rattle.lock.proofs.steps.Reporting.{reported_front_length}
 
@@ -114,7 +115,7 @@ module _ (w : TreeWords) (us is b₀ : List ℕ) (s₀ : State) (c₀ : Counters
   done k = steps t (take k is) s₀
 
   -- the first entries are done, in pieces
-  pub record InPieces (b M A W L : List ℕ) (s : State) (c : Counters) (kinds : List ℕ) (n from : ℕ) : Type 0 where
+  pub record InPieces (b : List ℕ) (K : List ThreadTally) (s : State) (c : Counters) (kinds : List ℕ) (n from : ℕ) : Type 0 where
     pub within : from ≤ length is
     pub formed : Formed t s
     pub first_formed : Formed t s₀
@@ -122,13 +123,27 @@ module _ (w : TreeWords) (us is b₀ : List ℕ) (s₀ : State) (c₀ : Counters
     pub counters_are : c ≡ counters_after t c₀ (done from)
     pub kinds_are : kinds ≡ kinds_of (done from)
     pub trace_is : b ≡ trace_front b₀ (run t (take from is) s₀)
-    pub tallies : Tallies t us (done from) M A W L n
+    pub tallies : Tallies t us (done from) (marks_of K) (attempts_of K) (totals_of K) (longest_of K) n
 
-  pub pieces_start : (M : List ℕ) → HandedIn us → MarksOf us M → Formed t s₀ → InPieces b₀ M (replicate 256 0) (replicate 256 0) (replicate 256 0) s₀ c₀ (0 ∷ 0 ∷ 0 ∷ 0 ∷ 0 ∷ 0 ∷ []) first 0
+  pub pieces_start :
+      (K : List ThreadTally) → HandedIn us → MarksOf us (marks_of K) → attempts_of K ≡ replicate 256 0 → totals_of K ≡ replicate 256 0 → longest_of K ≡ replicate 256 0 → Formed t s₀ →
+      InPieces b₀ K s₀ c₀ (0 ∷ 0 ∷ 0 ∷ 0 ∷ 0 ∷ 0 ∷ []) first 0
   unfolding run run_of steps state_after how_many entering kinds_of
-  pieces_start M H K f = record { within = omega arith; formed = f; first_formed = f; state_is = refl; counters_are = sym (counters_none t c₀); kinds_are = refl; trace_is = refl; tallies = start t us M H K }
+  pieces_start K H m ea ew el f = record { within = omega arith; formed = f; first_formed = f; state_is = refl; counters_are = sym (counters_none t c₀); kinds_are = refl; trace_is = refl; tallies = rw (ea, ew, el) (start t us (marks_of K) H m) }
 
-  module _ (b M A W L : List ℕ) (s : State) (c : Counters) (kinds : List ℕ) (n from : ℕ) (G : InPieces b M A W L s c kinds n from) (ok : (run_refusal t handed is (length b₀)).number ≡ 0) where
+  module _ (b : List ℕ) (K : List ThreadTally) (s : State) (c : Counters) (kinds : List ℕ) (n from : ℕ) (G : InPieces b K s c kinds n from) (ok : (run_refusal t handed is (length b₀)).number ≡ 0) where
+    abbrev M : List ℕ
+    M = marks_of K
+
+    abbrev A : List ℕ
+    A = attempts_of K
+
+    abbrev W : List ℕ
+    W = totals_of K
+
+    abbrev L : List ℕ
+    L = longest_of K
+
     abbrev R : GoodRun t handed is (length b₀)
     R = run_facts t handed is (length b₀) ok
 
@@ -262,15 +277,15 @@ module _ (w : TreeWords) (us is b₀ : List ℕ) (s₀ : State) (c₀ : Counters
               tallied = G.tallies;
             }
 
-        pub countable : Countable t piece codes M A W L n
+        pub countable : Countable t piece codes K n
         countable = record { under_way = us; done = done from; state = s; counting = counting }
 
         pub pieces_turn :
             (s' : State) (c' : Counters) → s' ≡ (run t piece s).state → c' ≡ counters_after t c (steps t piece s) → (ys : List ℕ) → ys ≡ trace_front (take (length b - (n - first)) (drop (n - first) b)) (run t piece s) → (pk kinds' : List ℕ) →
-            pk ≡ kinds_of (steps t piece s) → kinds' ≡ kinds_added kinds pk → (M' A' W' L' : List ℕ) (n' : ℕ) → Counted t piece codes M A W L n M' A' W' L' n' →
-            InPieces (take (n - first) b ++ (ys ++ drop (length b - (n - first)) (drop (n - first) b))) M' A' W' L' s' c' kinds' n' end
+            pk ≡ kinds_of (steps t piece s) → kinds' ≡ kinds_added kinds pk → (K' : List ThreadTally) (n' : ℕ) → Counted t piece codes K n K' n' →
+            InPieces (take (n - first) b ++ (ys ++ drop (length b - (n - first)) (drop (n - first) b))) K' s' c' kinds' n' end
         unfolding run run_of FormLaw
-        pieces_turn s' c' es ec ys ey pk kinds' ek em M' A' W' L' n' C =
+        pieces_turn s' c' es ec ys ey pk kinds' ek em K' n' C =
             record {
               within = fit;
               formed = rw es ((form_law t (sixteen_bit w) R.tree).of_run piece s piece_threads G.formed);

@@ -7,13 +7,11 @@ use lib.ListN.{length, drop, replicate, length-replicate}
 use lib.Seq.{sets, sets-eq}
 use borrow.Author.Tests.{ne_eqb, eq-eqb}
 use Rattle.model.specs.declared.TreeWords.{TreeWords}
-use Rattle.model.specs.declared.State.{State}
-use Rattle.model.specs.declared.Counters.{Counters}
 use Rattle.model.specs.declared.LockState.{LockState}
-use Rattle.model.specs.Counters.{lock_state, counters_after}
+use Rattle.model.specs.Counters.{counters_after}
 use Rattle.model.specs.declared.Counts.{Counts}
 use Rattle.model.specs.Trees.{Tree, tree_of}
-use Rattle.model.specs.Runs.{steps, counts_of, run_of, run}
+use Rattle.model.specs.Runs.{steps, counts_of, run}
 use Rattle.model.specs.Refusals.{Refusal, refusal, run_refusal}
 use Rattle.refusals.specs.declared.reasons.Refusal as refusals
 use Rattle.refusals.specs.Reasons.{number_of}
@@ -22,7 +20,6 @@ use Rattle.model.specs.Answers.{counters_after_run, no_counts, run_reply, run_bu
 use Rattle.model.proofs.Laws.Runs.{steps_length}
 use Rattle.model.proofs.Laws.Calls.{run_facts}
 use Rattle.schedules.specs.Answers.{row_buffer}
-use Rattle.waits.specs.declared.WaitsReply.{WaitsReply}
 use Rattle.waits.specs.Attempts.{under_way_below}
 use Rattle.waits.specs.Rows.{all_rows_from}
 use Rattle.waits.specs.Refusals.{waits_on_refusal}

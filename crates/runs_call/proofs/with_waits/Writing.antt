@@ -57,11 +57,11 @@ module _ (threads : ℕ) (A W L b l : List ℕ) (k at a w m : ℕ) (S : Written 
   pub row_room : 5 * (threads + 1) ≤ length b → at + 5 ≤ length l
   row_room h = omega (arith, S.place, S.within, long)
 
-  pub written_turn :
+  written_next :
       k < threads → threads ≤ 256 → Small A → (l' : List ℕ) → l' ≡ sets l at (row_with (get_or A k 0) (get_or W k 0) (get_or L k 0)) → (w' m' : ℕ) → w' ≡ capped (w + get_or W k 0) →
       m' ≡ max m (get_or L k 0) → Written threads A W L b l' (k + 1) (at + 5) (a + get_or A k 0) w' m'
   unfolding table_rows sum_below largest_below
-  written_turn h few sa l' e w' m' ew em =
+  written_next h few sa l' e w' m' ew em =
       let z : k + 1 ≡ suc k = add-one k in
       let place : 0 + length (table_rows k A W L) ≡ at = omega (arith, rows_long k A W L, S.place) in
       let x = sa.small k (omega arith) in
@@ -76,6 +76,13 @@ module _ (threads : ℕ) (A W L b l : List ℕ) (k at a w m : ℕ) (S : Written 
         largest_is = rw z (em ∙ ap (λ v. max v (get_or L k 0)) S.largest_is);
         attempts_small = omega (arith, S.attempts_small);
       }
+
+  -- the same with the numbers that the code has read
+  pub written_turn :
+      k < threads → threads ≤ 256 → Small A → (va vw vl : ℕ) → va ≡ get_or A k 0 → vw ≡ get_or W k 0 → vl ≡ get_or L k 0 → (l' : List ℕ) → l' ≡ sets l at (row_with va vw vl) →
+      (w' m' : ℕ) → w' ≡ capped (w + vw) → m' ≡ max m vl → Written threads A W L b l' (k + 1) (at + 5) (a + va) w' m'
+  written_turn h few sa va vw vl ea ev el l' e w' m' ew em =
+      rw ea (written_next h few sa l' (e ∙ rw (ea, ev, el) refl) w' m' (ew ∙ ap (λ v. capped (w + v)) ev) (em ∙ ap (max m) el))
 
   pub written_ends : threads ≤ k → (l' : List ℕ) → l' ≡ sets l at (row_with a w m) → l' ≡ sets b 0 (rows_by threads A W L)
   unfolding rows_by

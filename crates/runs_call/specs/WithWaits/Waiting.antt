@@ -1,5 +1,5 @@
 -- Counting attempts after a piece of a run, given the numbers that report its steps.
-use Rattle.std.specs.Prelude.{◌≡◌, Bool, not, ◌&&◌, ◌||◌, List, [], ◌∷◌, ◌++◌, ◌≢◌, ℕ, ◌+◌, ◌≤◌, ◌<◌, eqb, ltb, leb, length, get_or, take}
+use Rattle.std.specs.Prelude.{◌≡◌, Bool, not, ◌&&◌, ◌||◌, List, [], ◌∷◌, ◌++◌, ◌≢◌, map, max, cond, ℕ, ◌+◌, ◌≤◌, ◌<◌, eqb, ltb, leb, length, get_or, take}
 use Rattle.model.specs.declared.State.{State}
 use Rattle.model.specs.Trees.{Tree}
 use Rattle.model.specs.Steps.{Step, step}
@@ -7,8 +7,9 @@ use Rattle.model.specs.Runs.{steps, state_after}
 use Rattle.model.specs.Counters.{most_counted}
 use Rattle.model.specs.Refusals.{tree_refusal}
 use Rattle.model.specs.Laws.{AllThreads}
-use Rattle.runs_call.specs.WithWaits.Tallies.{first, mark_with, mark_of, wait_of, Tallies}
+use Rattle.runs_call.specs.WithWaits.Tallies.{first, mark_with, mark_of, wait_of, finishes, Tallies}
 use Rattle.lock.specs.Steps.Running.{step_code}
+use Rattle.runs_call.specs.declared.with_waits.waiting.ThreadTally.{ThreadTally}
 
 -- the home is a ticket root, given the number of the kind of root
 abbrev pub ticket_home : (kind home : ℕ) → Bool
@@ -18,15 +19,38 @@ ticket_home k h = not (eqb k 0) && eqb h 0
 abbrev pub mark_at : (marks : List ℕ) → (at entered : ℕ) → (begins : Bool) → ℕ
 mark_at m at n b = mark_with b n (get_or m at 0)
 
--- the numbers of the tables at an index are small enough for one more
-pub record Fits (marks attempts totals : List ℕ) (at entered : ℕ) : Type 0 where
-  pub place : at < 256
+-- the four numbers of each thread
+abbrev pub marks_of : List ThreadTally → List ℕ
+marks_of = map (λ r. r.mark)
+
+abbrev pub attempts_of : List ThreadTally → List ℕ
+attempts_of = map (λ r. r.attempts)
+
+abbrev pub totals_of : List ThreadTally → List ℕ
+totals_of = map (λ r. r.total)
+
+abbrev pub longest_of : List ThreadTally → List ℕ
+longest_of = map (λ r. r.longest)
+
+-- what is kept for a thread after one more step of it
+abbrev pub tally_noted : (begins enters : Bool) → (entered : ℕ) → ThreadTally → ThreadTally
+tally_noted b e n r =
+    let m = mark_with b n r.mark in
+    let f = finishes e m in
+    record {
+      mark = cond e 0 m;
+      attempts = cond f (r.attempts + 1) r.attempts;
+      total = cond f (r.total + wait_of n m) r.total;
+      longest = cond f (max r.longest (wait_of n m)) r.longest;
+    }
+
+-- the numbers of a thread are small enough for one more
+pub record Fits (kept : ThreadTally) (entered : ℕ) : Type 0 where
   pub few : entered ≤ first + 65536
-  pub mark : get_or marks at 0 ≤ entered + 1
-  pub attempts_few : get_or attempts at 0 ≤ 65536
+  pub mark : kept.mark ≤ entered + 1
+  pub attempts_few : kept.attempts ≤ 65536
   pub total_small :
-      (begins : Bool) → mark_at marks at entered begins ≢ 0 →
-      get_or totals at 0 + wait_of entered (mark_at marks at entered begins) ≤ 18446744073709551615
+      (begins : Bool) → mark_with begins entered kept.mark ≢ 0 → kept.total + wait_of entered (mark_with begins entered kept.mark) ≤ 18446744073709551615
 
 -- the steps of a schedule from a state, reported by one number each, after steps that are already counted
 pub record Counting (t : Tree) (schedule codes marks attempts totals longest : List ℕ) (entered : ℕ) (under_way : List ℕ) (done : List Step) (s : State) : Type 0 where
@@ -38,17 +62,18 @@ pub record Counting (t : Tree) (schedule codes marks attempts totals longest : L
   pub tallied : Tallies t under_way done marks attempts totals longest entered
 
 -- the same for some such state and earlier steps
-pub record Countable (t : Tree) (schedule codes marks attempts totals longest : List ℕ) (entered : ℕ) : Type 0 where
+pub record Countable (t : Tree) (schedule codes : List ℕ) (kept : List ThreadTally) (entered : ℕ) : Type 0 where
   pub under_way : List ℕ
   pub done : List Step
   pub state : State
-  pub counting : Counting t schedule codes marks attempts totals longest entered under_way done state
+  pub counting : Counting t schedule codes (marks_of kept) (attempts_of kept) (totals_of kept) (longest_of kept) entered under_way done state
 
 -- afterwards these steps are counted too
-pub record Counted (t : Tree) (schedule codes marks attempts totals longest : List ℕ) (entered : ℕ) (marks' attempts' totals' longest' : List ℕ) (entered' : ℕ) : Type 0 where
+pub record Counted (t : Tree) (schedule codes : List ℕ) (kept : List ThreadTally) (entered : ℕ) (kept' : List ThreadTally) (entered' : ℕ) : Type 0 where
   pub counted :
-      (under_way : List ℕ) (done : List Step) (s : State) → Counting t schedule codes marks attempts totals longest entered under_way done s →
-      Tallies t under_way (done ++ steps t schedule s) marks' attempts' totals' longest' entered'
+      (under_way : List ℕ) (done : List Step) (s : State) →
+      Counting t schedule codes (marks_of kept) (attempts_of kept) (totals_of kept) (longest_of kept) entered under_way done s →
+      Tallies t under_way (done ++ steps t schedule s) (marks_of kept') (attempts_of kept') (totals_of kept') (longest_of kept') entered'
 
 -- the numbers of a table are at most 65,536
 pub record Small (table : List ℕ) : Type 0 where

@@ -7,9 +7,9 @@ ghost use Rattle.model.specs.Counters.{counters_after, most_counted};
 ghost use Rattle.model.specs.Refusals.{run_refusal};
 ghost use Rattle.waits.specs.Attempts.{under_way_below};
 ghost use Rattle.waits.specs.Rows.{row_with, capped, all_rows_from};
-ghost use Rattle.runs_call.specs.WithWaits.Tallies.{first, begins_number, mark_with, mark_of, number_of, finishes, wait_of, noted, rows_by, numbers_by};
+ghost use Rattle.runs_call.specs.WithWaits.Tallies.{first, begins_number, mark_with, mark_of, number_of, rows_by, numbers_by};
 ghost use Rattle.lock.specs.Steps.Running.{kinds_of, counts_by, trace_front};
-ghost use Rattle.runs_call.specs.WithWaits.Waiting.{kinds_added, ticket_home, mark_at, Fits, Countable, Counted, Small, MarksOf, HandedIn, MarksFit};
+ghost use Rattle.runs_call.specs.WithWaits.Waiting.{kinds_added, ticket_home, marks_of, attempts_of, totals_of, longest_of, tally_noted, Fits, Countable, Counted, Small, MarksOf, HandedIn, MarksFit};
 
 use lock::steps::run;
 use model::{LockState, TreeWords};
@@ -18,13 +18,19 @@ use refusals::of_runs::MOST_COUNTED;
 // The entries are counted from 2^63 on, so that there is a mark for every number that may be under way before them.
 const FIRST: u64 = MOST_COUNTED;
 
-// What is kept for each thread while attempts are counted: the mark of the attempt under way, how many are finished, the sum of their waits and the longest.
+// What is kept for a thread while attempts are counted: the mark of the attempt under way, how many are finished, the sum of their waits and the longest.
+#[derive(Clone, Copy)]
+struct ThreadTally {
+    mark: u64,
+    attempts: u64,
+    total: u64,
+    longest: u64,
+}
+
+// What is kept for all threads.
 #[derive(Drop)]
 struct Tally {
-    marks: [u64; 256],
-    attempts: [u64; 256],
-    totals: [u64; 256],
-    longest: [u64; 256],
+    threads: [ThreadTally; 256],
 }
 
 fn is_ticket_home(ticket_root: u32, home: u8) -> bool
@@ -88,56 +94,54 @@ fn put_row(rows: &mut [u64], at: usize, attempts: u64, total: u64, most: u64)
     rows[at..at + 5].copy_from_slice(&[attempts, total, most, mean.numerator, mean.denominator]);
 }
 
-impl Tally {
-    // No step is counted yet; the marks are those of the given numbers.
-    fn new(under_way: &[u64; 256]) -> Tally
-        requires { HandedIn under_way.now }
-        ensures marks { MarksOf under_way.now result.marks }
-        ensures attempts { result.attempts ≡ replicate 256 0 }
-        ensures totals { result.totals ≡ replicate 256 0 }
-        ensures longest { result.longest ≡ replicate 256 0 }
+impl ThreadTally {
+    // Counts one more step of the thread, given whether it begins an attempt and whether it enters.
+    fn note(&mut self, entered: u64, begins: bool, enters: bool)
+        requires { Fits self.old entered }
+        ensures { self.new ≡ tally_noted begins enters entered self.old }
     {
-        let mut marks = [0u64; 256];
-        for (k, number) in under_way.iter().enumerate() {
-            marks[k] = mark_of(*number);
-        }
-        Tally {
-            marks,
-            attempts: [0u64; 256],
-            totals: [0u64; 256],
-            longest: [0u64; 256],
-        }
-    }
-
-    // Counts one more step of a thread, given whether it begins an attempt and whether it enters.
-    fn note(&mut self, at: usize, entered: u64, begins: bool, enters: bool)
-        requires { Fits self.old.marks self.old.attempts self.old.totals at entered }
-        ensures marks_after { self.new.marks ≡ set self.old.marks at (cond enters 0 (mark_at self.old.marks at entered begins)) }
-        ensures attempts_after { self.new.attempts ≡ noted (finishes enters (mark_at self.old.marks at entered begins)) self.old.attempts at (get_or self.old.attempts at 0 + 1) }
-        ensures totals_after { let mark = mark_at self.old.marks at entered begins in
-            self.new.totals ≡ noted (finishes enters mark) self.old.totals at (get_or self.old.totals at 0 + wait_of entered mark) }
-        ensures longest_after { let mark = mark_at self.old.marks at entered begins in
-            self.new.longest ≡ noted (finishes enters mark) self.old.longest at (max (get_or self.old.longest at 0) (wait_of entered mark)) }
-    {
-        let mark = mark_with(begins, entered, self.marks[at]);
+        let mark = mark_with(begins, entered, self.mark);
         if !enters {
-            self.marks[at] = mark;
+            self.mark = mark;
             return;
         }
-        self.marks[at] = 0;
+        self.mark = 0;
         if mark == 0 {
             return;
         }
         let wait = entered + 1 - mark;
-        self.attempts[at] += 1;
-        self.totals[at] += wait;
-        self.longest[at] = self.longest[at].max(wait);
+        self.attempts += 1;
+        self.total += wait;
+        self.longest = self.longest.max(wait);
+    }
+}
+
+impl Tally {
+    // No step is counted yet; the marks are those of the given numbers.
+    fn new(under_way: &[u64; 256]) -> Tally
+        requires { HandedIn under_way.now }
+        ensures marks { MarksOf under_way.now (marks_of result.threads) }
+        ensures attempts { attempts_of result.threads ≡ replicate 256 0 }
+        ensures totals { totals_of result.threads ≡ replicate 256 0 }
+        ensures longest { longest_of result.threads ≡ replicate 256 0 }
+    {
+        let nothing = ThreadTally {
+            mark: 0,
+            attempts: 0,
+            total: 0,
+            longest: 0,
+        };
+        let mut threads = [nothing; 256];
+        for (k, number) in under_way.iter().enumerate() {
+            threads[k].mark = mark_of(*number);
+        }
+        Tally { threads }
     }
 
     // Counts the steps of a piece one after another, and returns the number of entries so far.
     fn count_piece(&mut self, tree: &TreeWords, schedule: &[u16], codes: &[u16], count: u64) -> u64
-        requires { Countable (tree_of tree.now) schedule.now codes.now self.old.marks self.old.attempts self.old.totals self.old.longest count }
-        ensures { Counted (tree_of tree.now) schedule.now codes.now self.old.marks self.old.attempts self.old.totals self.old.longest count self.new.marks self.new.attempts self.new.totals self.new.longest result }
+        requires { Countable (tree_of tree.now) schedule.now codes.now self.old.threads count }
+        ensures { Counted (tree_of tree.now) schedule.now codes.now self.old.threads count self.new.threads result }
     {
         let mut entered = count;
         for k in 0..schedule.len() {
@@ -146,7 +150,7 @@ impl Tally {
             let home = tree.homes[at];
             let begins = begins_at(is_ticket_home(tree.ticket_root, home), home, code / 8);
             let enters = run::kind_of_code(code).is_entry();
-            self.note(at, entered, begins, enters);
+            self.threads[at].note(entered, begins, enters);
             entered += u64::from(enters);
         }
         entered
@@ -156,23 +160,18 @@ impl Tally {
     fn put_rows(&self, rows: &mut [u64], threads: u32)
         requires threads_bound { threads ≤ 256 }
         requires threads_in_bounds { 5 * (threads + 1) ≤ length rows.old }
-        requires small { Small self.now.attempts }
-        ensures { rows.new ≡ sets rows.old 0 (rows_by threads self.now.attempts self.now.totals self.now.longest) }
+        requires small { Small (attempts_of self.now.threads) }
+        ensures { rows.new ≡ sets rows.old 0 (rows_by threads (attempts_of self.now.threads) (totals_of self.now.threads) (longest_of self.now.threads)) }
     {
         let mut attempts: u64 = 0;
         let mut total: u64 = 0;
         let mut most: u64 = 0;
         for k in 0..threads as usize {
-            put_row(
-                rows,
-                5 * k,
-                self.attempts[k],
-                self.totals[k],
-                self.longest[k],
-            );
-            attempts += self.attempts[k];
-            total = total.saturating_add(self.totals[k]);
-            most = most.max(self.longest[k]);
+            let kept = self.threads[k];
+            put_row(rows, 5 * k, kept.attempts, kept.total, kept.longest);
+            attempts += kept.attempts;
+            total = total.saturating_add(kept.total);
+            most = most.max(kept.longest);
         }
         put_row(rows, 5 * threads as usize, attempts, total, most);
     }
@@ -180,12 +179,12 @@ impl Tally {
     // The numbers of the threads after the run, from their marks.
     fn numbers(&self, threads: u32, entered: u64) -> [u64; 256]
         requires threads_bound { threads ≤ 256 }
-        requires marks_fit { MarksFit self.now.marks entered }
-        ensures { result ≡ sets (replicate 256 0) 0 (numbers_by threads entered self.now.marks) }
+        requires marks_fit { MarksFit (marks_of self.now.threads) entered }
+        ensures { result ≡ sets (replicate 256 0) 0 (numbers_by threads entered (marks_of self.now.threads)) }
     {
         let mut numbers = [0u64; 256];
         for k in 0..threads as usize {
-            numbers[k] = number_of(entered, self.marks[k]);
+            numbers[k] = number_of(entered, self.threads[k].mark);
         }
         numbers
     }

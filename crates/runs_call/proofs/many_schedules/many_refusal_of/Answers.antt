@@ -1,6 +1,4 @@
 -- `runs_call::many_schedules::many_refusal_of` meets its contract: the tests of the tree, then 22 and 23.
-use mathlib.Core.Path.{◌≡◌, sym, ◌∙◌}
-use mathlib.Core.Bool.{true, false}
 use Rattle.refusals.proofs.Refusing.{error_passed, error_numbered, ok_numbered}
 use Rattle.runs_call.proofs.many_schedules.Answering.{tree_answered, total_answered, room_answered, acceptance_answered}
 use Rattle.runs_call.proofs.many_schedules.many_refusal_of.Goals as goal

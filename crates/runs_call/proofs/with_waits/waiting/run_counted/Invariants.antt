@@ -5,7 +5,7 @@ use Rattle.runs_call.proofs.with_waits.Pieces.{InPieces}
 use Rattle.runs_call.proofs.with_waits.waiting.run_counted.Given as goal
 
 abbrev pub invariant-loop-from : goal.invariant-loop-from
-invariant-loop-from l = InPieces l.tree l.under_way l.schedule l.initial.trace l.initial.state.words l.initial.state.counters l.trace l.tally.marks l.tally.attempts l.tally.totals l.tally.longest l.state.words l.state.counters l.counts l.entered l.from
+invariant-loop-from l = InPieces l.tree l.under_way l.schedule l.initial.trace l.initial.state.words l.initial.state.counters l.trace l.tally.threads l.state.words l.state.counters l.counts l.entered l.from
 
 abbrev pub decreases-loop-from : goal.decreases-loop-from
 decreases-loop-from l = length l.schedule - l.from

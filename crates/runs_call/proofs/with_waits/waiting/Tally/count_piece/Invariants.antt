@@ -3,4 +3,4 @@ use Rattle.runs_call.proofs.with_waits.Counting.{CountedSoFar}
 use Rattle.runs_call.proofs.with_waits.waiting.Tally.count_piece.Given as goal
 
 abbrev pub invariant-loop-k : goal.invariant-loop-k
-invariant-loop-k l = CountedSoFar l.tree l.schedule l.codes l.initial.self.marks l.initial.self.attempts l.initial.self.totals l.initial.self.longest l.count l.self.marks l.self.attempts l.self.totals l.self.longest l.entered l.k
+invariant-loop-k l = CountedSoFar l.tree l.schedule l.codes l.initial.self.threads l.count l.self.threads l.entered l.k
