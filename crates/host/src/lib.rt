@@ -192,7 +192,7 @@ pub extern "C" fn hmcs_write_file(
 pub extern "C" fn hmcs_rate(h1: u16, h2: u16, times: PassingTimes) -> RateReply
     ensures { result ≡ reply_of (rate_answer h1 h2 times) }
 {
-    rate::reply(rate::rate(h1, h2, times))
+    rate::reply(rate::RateAnswer::from(rate::rate(h1, h2, times)))
 }
 
 // A tree from its text.

@@ -1,6 +1,6 @@
 -- The check of a journal piece by piece: the state so far, the entries left, and the result of a piece.
 use mathlib.Core.Path.{◌≡◌, sym, ap, ◌∙◌, subst}
-use Rattle.std.specs.Prelude.{Some, None, Result, min}
+use Rattle.std.specs.Prelude.{Option, Some, None, Result, min}
 use Rattle.std.proofs.lemmas.Bool.{cases_lt}
 use Rattle.std.specs.Result.{IsErrAnd}
 use Rattle.std.proofs.lemmas.Result.{err_from_is_err_and}
@@ -38,7 +38,7 @@ use Rattle.journal_call.specs.Reader.Stretches.{position_after, Stretch, Stops}
 use Rattle.journal_call.specs.Pieces.Pieces.{PieceRead}
 use Rattle.journal.specs.Answers.{fresh_lock, checked, journal_refusal}
 use Rattle.journal.specs.Laws.{kind_numbers}
-use Rattle.journal_call.proofs.Stepping.{stretch_threads, stretch_moves, SameKinds, goes_on, stops_here, stopped_by, ended}
+use Rattle.journal_call.proofs.Stepping.{stretch_threads, stretch_moves, stretch_within, SameKinds, goes_on, stops_here, stopped_by, ended}
 use Rattle.lock.specs.Steps.Running.{codes_front, fresh_from}
 use Rattle.journal_call.specs.Kinds.{other_kind}
 use Rattle.journal_call.specs.declared.journals.Refused.{Refused}
@@ -112,7 +112,7 @@ module _ (w : TreeWords) (bs : List ℕ) where
     ends s p b g n = answers ok s p b g accepted (ended t bs s p b n)
 
     -- A PIECE: its threads and its kinds
-    module _ (s : State) (p b : ℕ) (g : SoFar w bs s p b) (threads kinds : List ℕ) (c : Piece) (r : PieceRead w.threads bs p b threads kinds c) where
+    module _ (s : State) (p b : ℕ) (g : SoFar w bs s p b) (threads kinds : List ℕ) (c : Piece (Option Reason)) (r : PieceRead w.threads bs p b threads kinds c) where
       abbrev is : List ℕ
       is = take c.count threads
 
@@ -141,6 +141,10 @@ module _ (w : TreeWords) (bs : List ℕ) where
             | inl more ↦ omega (arith, stretch_moves read, long, r.full none more room fit fit', some)
             | inr end ↦ omega (arith, end, left)
           ]
+
+      -- a piece ends within the journal
+      pub within : p < length bs → c.position ≤ length bs
+      within left = stretch_within read (omega (arith, left))
 
       -- its kinds, compared with those of the steps
       module _ (codes₀ codes : List ℕ) (e : codes ≡ codes_front codes₀ (steps t is s)) (room : c.count ≤ length codes₀) (m : ℕ) (low : Lowest c.count (other_kind kinds codes) m) where

@@ -31,6 +31,11 @@ pub stretch_moves : {known : ℕ} {bs is ks : List ℕ} {p b e l : ℕ} → Stre
 stretch_moves none_read = omega arith
 stretch_moves {bs = bs} (one_read {p = p} {b = b} {i = i} {k = k} {next = q} f h s) = omega (arith, (moves_on bs p b i k q f).0, stretch_moves s)
 
+-- and it ends within the journal
+pub stretch_within : {known : ℕ} {bs is ks : List ℕ} {p b e l : ℕ} → Stretch known bs p b is ks e l → p ≤ length bs → e ≤ length bs
+stretch_within none_read h = h
+stretch_within {bs = bs} (one_read {p = p} {b = b} {i = i} {k = k} {next = q} f _ s) _ = stretch_within s (moves_on bs p b i k q f).1
+
 -- the kinds of entries before a position are those of the steps
 abbrev pub SameKinds : Tree → State → (threads kinds : List ℕ) → (position : ℕ) → Type 0
 SameKinds t s is ks m = (j : ℕ) → j < m → get_or ks j 0 ≡ get_or (kind_numbers (steps t is s)) j 0

@@ -1,5 +1,5 @@
 -- The check of a journal piece by piece: what holds between two pieces, and the result of a piece.
-use Rattle.std.specs.Prelude.{◌≡◌, List, ℕ, ◌<◌, length, Result, Ok, Err}
+use Rattle.std.specs.Prelude.{◌≡◌, List, ℕ, ◌≤◌, ◌<◌, length, Result, Ok, Err}
 use Rattle.model.specs.declared.TreeWords.{TreeWords}
 use Rattle.model.specs.declared.State.{State}
 use Rattle.model.specs.Trees.{tree_of}
@@ -20,7 +20,7 @@ abbrev pub refused_by : {A : Type 0} → Result A Refused → Refusal
 refused_by (Ok _) = accepted
 refused_by (Err r) = refusal (number_of r.reason) r.place
 
--- after a piece: the state and the position from which the next piece continues, further on if any byte was left; or the refusal
+-- after a piece: the state and the position from which the next piece continues, further on and within the journal if any byte was left; or the refusal
 abbrev pub Turned : {A : Type 0} (tree : TreeWords) (bytes : List ℕ) (position : ℕ) → Result A Refused → State → (next before : ℕ) → Type 0
-Turned w bs p (Ok _) s q b = (p < length bs → p < q) × SoFar w bs s q b
+Turned w bs p (Ok _) s q b = (p < length bs → (p < q) × (q ≤ length bs)) × SoFar w bs s q b
 Turned w bs p (Err r) s q b = refusal (number_of r.reason) r.place ≡ journal_refusal w bs

@@ -7,6 +7,7 @@ mod alike;
 mod blocks;
 
 use crate::reader::{Piece, Reader};
+use refusals::reasons::Reason;
 
 // Where the next entries that are read one by one end: a number of them after an index, or at the end of the arrays.
 fn block_end(room: usize, count: usize, wanted: usize) -> usize
@@ -26,7 +27,7 @@ fn read_next(
     kinds: &mut [u8],
     from: usize,
     end: usize,
-) -> Piece
+) -> Piece<Option<Reason>>
     requires from_le_end { (from ≤ end) × (end ≤ from + 32) }
     requires end_in_bounds { end ≤ length threads.old }
     requires end_in_bounds_2 { end ≤ length kinds.old }
@@ -40,7 +41,7 @@ fn read_next(
 }
 
 // Reads as many entries as the arrays hold from the reader on, up to the journal's end or the first entry that is refused; their threads and kinds go to the front of the arrays. Four or sixteen entries in a row with the same bit map are read at once, others one by one: four of them after such entries, since more may follow where a thread runs in bursts, and otherwise thirty-two.
-pub fn read_piece(reader: &Reader, known: u32, threads: &mut [u16], kinds: &mut [u8]) -> Piece
+pub fn read_piece(reader: &Reader, known: u32, threads: &mut [u16], kinds: &mut [u8]) -> Piece<Option<Reason>>
     ensures { PieceRead known reader.now.journal.now reader.now.position reader.now.before threads.new kinds.new result }
 {
     let room = threads.len().min(kinds.len());

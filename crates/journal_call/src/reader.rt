@@ -14,13 +14,13 @@ pub struct Reader<'a> {
     pub before: u16,
 }
 
-// Consecutive entries: how many, the position after them, the thread of the last; and why the entry at that position is refused, if it is.
+// Consecutive entries: how many, the position after them, the thread of the last; and what refuses the entry at that position.
 #[derive(Clone, Copy)]
-pub struct Piece {
+pub struct Piece<R> {
     pub count: usize,
     pub position: usize,
     pub before: u16,
-    pub refused: Option<Reason>,
+    pub refused: R,
 }
 
 pub fn two_bytes(low: u8, high: u8) -> u16
@@ -132,7 +132,8 @@ pub fn read_entry(journal: &[u8], position: usize, before: u16) -> Entry
     }
 }
 
-pub fn stopped(count: usize, position: usize, before: u16, refused: Option<Reason>) -> Piece
+// A piece of its parts, whatever says what refuses the next entry: why, if at all, or a number.
+pub fn stopped<R>(count: usize, position: usize, before: u16, refused: R) -> Piece<R>
     ensures { result ≡ piece_of count position before refused }
 {
     Piece {
@@ -151,7 +152,7 @@ pub fn read_some(
     kinds: &mut [u8],
     from: usize,
     end: usize,
-) -> Piece
+) -> Piece<Option<Reason>>
     requires from_le_end { from ≤ end }
     requires end_in_bounds { end ≤ length threads.old }
     requires end_in_bounds_2 { end ≤ length kinds.old }

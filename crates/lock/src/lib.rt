@@ -5,7 +5,7 @@ pub mod steps;
 
 ghost use Rattle.std.specs.Prelude.{◌≡◌, IfOk, length};
 ghost use Rattle.model.specs.Trees.{tree_of};
-ghost use Rattle.model.specs.Refusals.{step_refusal, run_refusal};
+ghost use Rattle.model.specs.Refusals.{refusal, step_refusal, run_refusal};
 ghost use Rattle.model.specs.Answers.{fresh_answer, step_answer, run_answer, trace_answer};
 ghost use Rattle.refusals.specs.Reasons.{refusal_of};
 ghost use Rattle.lock.specs.Lent.{TakenIs};
@@ -25,28 +25,34 @@ pub struct TakenStep {
     pub domain: u32,
 }
 
-// The number at which the counters of a ticket lock start: the given one at a ticket root, else 0.
-fn first_of(ticket_root: u32, start: u16) -> u16
-    ensures { result ≡ first_number 0 ticket_root start }
+// The number at which the counters of a ticket lock start: the given one at a ticket root that is not refused, else 0.
+fn first_of(number: u32, ticket_root: u32, start: u16) -> u16
+    ensures { result ≡ first_number number ticket_root start }
 {
-    if ticket_root == 0 { 0 } else { start }
+    if number == 0 && ticket_root != 0 { start } else { 0 }
+}
+
+// Number and place of what the tests of a tree found.
+#[tactic(auto, unfolding(model::specs::Refusals::accepted, model::specs::Refusals::refusal))]
+fn numbers_of(tested: Result<(), Refusal>) -> (u32, u32)
+    ensures { refusal result.0 result.1 ≡ refusal_of tested }
+{
+    match tested {
+        Ok(()) => (0, 0),
+        Err(refusal) => (refusal.number(), refusal.place),
+    }
 }
 
 // A fresh lock: a fresh state, whether accepted or refused.
 pub fn fresh_lock(tree: &TreeWords, start: u16) -> FreshReply
     ensures { result ≡ fresh_answer tree.now start }
 {
-    match refusals::tree_refusal_of(tree) {
-        Ok(()) => FreshReply {
-            number: 0,
-            place: 0,
-            state: steps::fresh(first_of(tree.ticket_root, start)),
-        },
-        Err(refusal) => FreshReply {
-            number: refusal.number(),
-            place: refusal.place,
-            state: steps::fresh(0),
-        },
+    let (number, place) = numbers_of(refusals::tree_refusal_of(tree));
+    let first = first_of(number, tree.ticket_root, start);
+    FreshReply {
+        number,
+        place,
+        state: steps::fresh(first),
     }
 }
 
@@ -122,6 +128,6 @@ pub fn run_lock(tree: &TreeWords, state: LockState, schedule: &[u16], trace: &mu
             counts,
             state: left,
         },
-        Err(refusal) => steps::refused(refusal, left),
+        Err(refusal) => steps::refused(refusal.number(), refusal.place, left),
     }
 }

@@ -3,14 +3,12 @@ ghost use Rattle.std.specs.Prelude.{◌≡◌};
 ghost use Rattle.model.specs.Counters.{lock_state, fresh_counters};
 ghost use Rattle.model.specs.Refusals.{refusal};
 ghost use Rattle.model.specs.Answers.{run_refused, no_counts};
-ghost use Rattle.refusals.specs.Reasons.{number_of};
 ghost use Rattle.lock.specs.Steps.Running.{fresh_from};
 
 pub mod limits;
 pub mod run;
 
 use model::{Counters, Counts, LockState, PlaceArrays, RunReply, State};
-use refusals::reasons::Refusal;
 
 // The state of a fresh lock whose ticket counters start at this number.
 pub fn fresh_state(first: u16) -> State
@@ -67,12 +65,12 @@ pub fn no_counts() -> Counts
 }
 
 // The reply to a refused run: number, place, all counts 0 and the state unchanged.
-pub fn refused(refused: Refusal, state: LockState) -> RunReply
-    ensures { result ≡ run_refused (refusal (number_of refused.reason) refused.place) state }
+pub fn refused(number: u32, place: u32, state: LockState) -> RunReply
+    ensures { result ≡ run_refused (refusal number place) state }
 {
     RunReply {
-        number: refused.number(),
-        place: refused.place,
+        number,
+        place,
         counts: no_counts(),
         state,
     }

@@ -10,7 +10,7 @@ use crate::{ReadError, ReadReply, TreeRead};
 use model::TreeWords;
 use refusals::reasons::{Reason, Refusal};
 
-// Kept: text_tree_call, a crate beside this one, has the same; what both use is `model`, which has types alone.
+// Kept: text_tree_call, a crate beside this one, has the same. Below both are `model`, which has types alone, and `refusals`, which makes no trees.
 // A tree whose words are all 0.
 #[tactic(auto, unfolding(crate::specs::Answers::no_tree))]
 fn no_tree() -> TreeWords

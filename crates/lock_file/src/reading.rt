@@ -22,13 +22,14 @@ fn two_bytes_at(file: &[u8], at: usize) -> u16
     u16::from_le_bytes([byte_at(file, at), byte_at(file, at + 1)])
 }
 
+// Kept: two tests in place of `saturating_sub`, after which the compiler tests each byte of the field once more.
 // The position after a field or an entry of this size.
 #[tactic(auto, unfolding(crate::specs::Reading::field_end))]
 fn field_end_at(file: &[u8], at: usize, size: usize) -> Result<usize, ReadError>
     requires { 0 < size }
     ensures { reached_of result ≡ field_end file.now at size }
 {
-    if file.len().saturating_sub(at) < size {
+    if file.len() <= at || file.len() - at < size {
         return Err(ReadError::FileCut);
     }
     Ok(at + size)
@@ -180,6 +181,7 @@ pub(crate) fn read_entries(file: &[u8], start: usize, entries: usize, schedule: 
     ensures { schedule.new ≡ sets schedule.old 0 (entries_from file.now entries start) }
 {
     for k in 0..entries {
-        schedule[k] = two_bytes_at(file, start + 2 * k);
+        let at = start + 2 * k;
+        schedule[k] = u16::from_le_bytes([file[at], file[at + 1]]);
     }
 }

@@ -5,6 +5,8 @@ use Rattle.model.specs.Refusals.{Refusal, refusal, Test, test, first_refusal}
 use Rattle.rate.specs.declared.PassingTimes.{PassingTimes}
 use Rattle.refusals.specs.Reasons.{number_of}
 use Rattle.refusals.specs.declared.reasons.Refusal as reasons
+use Rattle.rate.specs.declared.RateAnswer.{RateAnswer}
+use Rattle.rate.specs.declared.RateAnswer.TheVariants.{Rate, Refused}
 use Rattle.rate.specs.declared.RateReply.{RateReply}
 use Rattle.rate.specs.Rate.{is_time, passing_rate}
 
@@ -41,6 +43,11 @@ rate_answer h1 h2 p = answer_of (rate_refusal h1 h2 p) (passing_rate h1 h2 p)
 abbrev pub answer_from : Result Float reasons.Refusal → Result Float Refusal
 answer_from (Ok x) = Ok x
 answer_from (Err r) = Err (refusal (number_of r.reason) r.place)
+
+-- the same, from the enum of which the code makes a reply; it has every number and place
+abbrev pub answer_in : RateAnswer → Result Float Refusal
+answer_in (Rate x) = Ok x
+answer_in (Refused n p) = Err (refusal n p)
 
 -- the answer as numbers: number, place, and the rate, which is 0 if refused
 abbrev pub reply_of : Result Float Refusal → RateReply

@@ -3,7 +3,7 @@
 
 ghost use Rattle.std.specs.Prelude.{◌≡◌, ◌<◌};
 ghost use Rattle.rate.specs.Rate.{is_time, passing_rate};
-ghost use Rattle.rate.specs.Answers.{answer_from, rate_answer, reply_of};
+ghost use Rattle.rate.specs.Answers.{answer_from, answer_in, rate_answer, reply_of};
 
 use refusals::reasons::{Reason, Refusal};
 
@@ -16,7 +16,15 @@ pub struct PassingTimes {
     pub p3: f64,
 }
 
-// A rate, in entries per unit of the times, or a refusal, as numbers: 0 and 0 with the rate; if refused, number and place with rate 0.
+// Kept: an enum of this crate's own, since a reply is made of every number and place, also of a number that no `Reason` has.
+// A rate, in entries per unit of the times, or a refusal.
+#[derive(Clone, Copy)]
+pub enum RateAnswer {
+    Rate(f64),
+    Refused { number: u32, place: u32 },
+}
+
+// The same as numbers: 0 and 0 with the rate; if refused, number and place with rate 0.
 #[repr(C)]
 #[derive(Clone, Copy)]
 pub struct RateReply {
@@ -71,19 +79,33 @@ pub fn rate(h1: u16, h2: u16, times: PassingTimes) -> Result<f64, Refusal>
     Ok(rate_of(h1, h2, times))
 }
 
-// An answer as numbers, for a caller that cannot take a Result.
-pub fn reply(answer: Result<f64, Refusal>) -> RateReply
-    ensures { result ≡ reply_of (answer_from answer) }
+impl From<Result<f64, Refusal>> for RateAnswer {
+    ghost from_gives = { λ r a. answer_in a ≡ answer_from r };
+
+    fn from(answer: Result<f64, Refusal>) -> RateAnswer {
+        match answer {
+            Ok(rate) => RateAnswer::Rate(rate),
+            Err(refusal) => RateAnswer::Refused {
+                number: refusal.number(),
+                place: refusal.place,
+            },
+        }
+    }
+}
+
+// An answer as numbers, for a caller that cannot take an enum.
+pub fn reply(answer: RateAnswer) -> RateReply
+    ensures { result ≡ reply_of (answer_in answer) }
 {
     match answer {
-        Ok(rate) => RateReply {
+        RateAnswer::Rate(rate) => RateReply {
             number: 0,
             place: 0,
             rate,
         },
-        Err(refusal) => RateReply {
-            number: refusal.number(),
-            place: refusal.place,
+        RateAnswer::Refused { number, place } => RateReply {
+            number,
+            place,
             rate: 0.0,
         },
     }

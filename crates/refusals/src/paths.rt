@@ -15,24 +15,23 @@ pub fn search_at(tree: &TreeWords, home: u8, l: u8) -> Found
     ensures child_bound { result.child < 64 }
 {
     let mut c = home;
-    for looked in 0..6 {
-        let found = Found {
-            child: c,
-            looked: looked + 1,
-        };
+    let mut looked: u32 = 0;
+    // Kept: the loop yields the child by `break`, the form that docs/DECISIONS.md and docs/SPEC-MAP.md say.
+    let child = loop {
+        if looked == 6 {
+            break c;
+        }
+        looked += 1;
         if c == 0 {
-            return found;
+            break c;
         }
         let parent = tree.parents[c as usize];
         if parent == l {
-            return found;
+            break c;
         }
         c = parent;
-    }
-    Found {
-        child: c,
-        looked: 6,
-    }
+    };
+    Found { child, looked }
 }
 
 // The record that a thread uses at a domain: its own at home, that of the domain's child above.

@@ -80,8 +80,7 @@ impl Writer<'_> {
             self.put_byte(0);
             return;
         }
-        self.put_byte(1);
-        self.put_byte(home);
+        self.put_two_bytes(u16::from_le_bytes([1, home]));
     }
 
     // Writes the entries of the threads 0 to T - 1.

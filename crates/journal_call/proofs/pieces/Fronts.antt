@@ -7,6 +7,7 @@ use Prim.Native.Nat.{ℕ, ◌+◌, ◌≤◌, ◌<◌}
 use native.Mathlib.Omega.{arith}
 use lib.ListN.{length, take, drop}
 use lib.Seq.{sets, sets-eq, take-append_seam}
+use Rattle.refusals.specs.declared.reasons.Reason.{Reason}
 use Rattle.journal_call.specs.declared.reader.Piece.{Piece}
 use Rattle.journal_call.specs.Reader.Stretches.{Stops, ReadOn}
 use Rattle.journal_call.specs.Pieces.Pieces.{PieceRead}
@@ -26,7 +27,7 @@ stored_front xs js n e h =
     let z : n ≡ length js = omega arith in
     rw (z, sets-eq js xs 0 (omega arith)) (take-append_seam js (drop (0 + length js) xs))
 
-pub piece : (known : ℕ) (bs : List ℕ) (p b : ℕ) (is₀ ks₀ is ks : List ℕ) (c : Piece) → ReadOn known bs p b is₀ ks₀ 0 is ks c.count c.position c.before →
+pub piece : (known : ℕ) (bs : List ℕ) (p b : ℕ) (is₀ ks₀ is ks : List ℕ) (c : Piece (Option Reason)) → ReadOn known bs p b is₀ ks₀ 0 is ks c.count c.position c.before →
     Stops known bs c.position c.before c.refused →
     (c.refused ≡ None → c.position < length bs → (room : ℕ) → room ≤ length is → room ≤ length ks → room ≤ c.count) → PieceRead known bs p b is ks c
 piece known bs p b is₀ ks₀ is ks c s stops full =

@@ -1,6 +1,7 @@
 -- Pieces of a journal, and entries that are read several at a time: the definitions that their contracts use.
-use Rattle.std.specs.Prelude.{◌≡◌, List, ℕ, ◌+◌, ◌*◌, ◌≤◌, ◌<◌, length, get_or, take, None}
+use Rattle.std.specs.Prelude.{◌≡◌, List, ℕ, ◌+◌, ◌*◌, ◌≤◌, ◌<◌, length, get_or, take, Option, None}
 use Rattle.journal.specs.Reading.{entry_size}
+use Rattle.refusals.specs.declared.reasons.Reason.{Reason}
 use Rattle.journal_call.specs.declared.reader.Piece.{Piece}
 use Rattle.journal_call.specs.Reader.Stretches.{Stretch, Stops}
 
@@ -28,7 +29,7 @@ pub record SizesFrom (bytes : List ℕ) (position count : ℕ) (sizes : List ℕ
   pub size : (k : ℕ) → k < count → get_or bytes (position + k) 0 ≤ 3 → get_or sizes k 0 ≡ entry_size (get_or bytes (position + k) 0)
 
 -- a piece of the journal, with its threads and kinds at the front of two arrays; it stops without a reason if the arrays are full or the journal ends
-pub record PieceRead (known : ℕ) (bytes : List ℕ) (position before : ℕ) (threads kinds : List ℕ) (piece : Piece) : Type 0 where
+pub record PieceRead (known : ℕ) (bytes : List ℕ) (position before : ℕ) (threads kinds : List ℕ) (piece : Piece (Option Reason)) : Type 0 where
   pub threads_fit : piece.count ≤ length threads
   pub kinds_fit : piece.count ≤ length kinds
   pub read : Stretch known bytes position before (take piece.count threads) (take piece.count kinds) piece.position piece.before

@@ -44,10 +44,10 @@ pub record ReadOn (known : ℕ) (bytes : List ℕ) (position before : ℕ) (thre
   pub kinds_fit : count ≤ length kinds₀
 
 -- a piece with these parts
-abbrev pub piece_of : (count position before : ℕ) → (refused : Option Reason) → Piece
+abbrev pub piece_of : {R : Type 0} → (count position before : ℕ) → (refused : R) → Piece R
 piece_of n p b r = record { count = n; position = p; before = b; refused = r }
 
 -- reading stopped after an entry, not before the index is reached unless a reason says why or the journal ends
-pub record StoppedBefore (known : ℕ) (bytes : List ℕ) (index : ℕ) (piece : Piece) : Type 0 where
+pub record StoppedBefore (known : ℕ) (bytes : List ℕ) (index : ℕ) (piece : Piece (Option Reason)) : Type 0 where
   pub stops : Stops known bytes piece.position piece.before piece.refused
   pub full : piece.refused ≡ None → piece.position < length bytes → index ≤ piece.count

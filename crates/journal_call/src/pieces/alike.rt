@@ -5,6 +5,7 @@ ghost use Rattle.journal_call.specs.Reader.Stretches.{ReadOn};
 ghost use Rattle.journal_call.specs.Pieces.Pieces.{AllAre, AllBelow, Fits, KindsGiven};
 
 use crate::reader::{Piece, Reader, stopped, two_bytes};
+use refusals::reasons::Reason;
 
 // Whether four bytes are the same bit map, by a single comparison: separate comparisons would be unpredictable branches.
 fn all_are(bits: u8, four: [u8; 4]) -> bool
@@ -52,7 +53,7 @@ fn read_same(
     threads: &mut [u16],
     kinds: &mut [u8],
     count: usize,
-) -> Piece
+) -> Piece<Option<Reason>>
     requires fits { Fits 12 4 (length reader.now.journal.now) reader.now.position (length threads.old) (length kinds.old) count }
     requires before_lt_known { reader.now.before < known }
     ensures { ReadOn known reader.now.journal.now reader.now.position reader.now.before threads.old kinds.old count threads.new kinds.new result.count result.position result.before }
@@ -87,7 +88,7 @@ fn read_others(
     threads: &mut [u16],
     kinds: &mut [u8],
     count: usize,
-) -> Piece
+) -> Piece<Option<Reason>>
     requires { Fits 12 4 (length reader.now.journal.now) reader.now.position (length threads.old) (length kinds.old) count }
     ensures { ReadOn known reader.now.journal.now reader.now.position reader.now.before threads.old kinds.old count threads.new kinds.new result.count result.position result.before }
 {
@@ -130,7 +131,7 @@ fn read_sixteen(
     threads: &mut [u16],
     kinds: &mut [u8],
     count: usize,
-) -> Piece
+) -> Piece<Option<Reason>>
     requires fits { Fits 34 16 (length reader.now.journal.now) reader.now.position (length threads.old) (length kinds.old) count }
     requires before_lt_known { reader.now.before < known }
     ensures { ReadOn known reader.now.journal.now reader.now.position reader.now.before threads.old kinds.old count threads.new kinds.new result.count result.position result.before }
@@ -177,7 +178,7 @@ fn read_four(
     threads: &mut [u16],
     kinds: &mut [u8],
     count: usize,
-) -> Piece
+) -> Piece<Option<Reason>>
     requires count_in_bounds { count ≤ length threads.old }
     requires count_in_bounds_2 { count ≤ length kinds.old }
     ensures { ReadOn known reader.now.journal.now reader.now.position reader.now.before threads.old kinds.old count threads.new kinds.new result.count result.position result.before }
@@ -199,7 +200,7 @@ fn read_many(
     threads: &mut [u16],
     kinds: &mut [u8],
     count: usize,
-) -> Piece
+) -> Piece<Option<Reason>>
     requires count_in_bounds { count ≤ length threads.old }
     requires count_in_bounds_2 { count ≤ length kinds.old }
     ensures { ReadOn known reader.now.journal.now reader.now.position reader.now.before threads.old kinds.old count threads.new kinds.new result.count result.position result.before }
@@ -217,7 +218,7 @@ pub(crate) fn read_alike(
     threads: &mut [u16],
     kinds: &mut [u8],
     count: usize,
-) -> Piece
+) -> Piece<Option<Reason>>
     requires count_in_bounds { count ≤ length threads.old }
     requires count_in_bounds_2 { count ≤ length kinds.old }
     ensures { ReadOn known reader.now.journal.now reader.now.position reader.now.before threads.old kinds.old count threads.new kinds.new result.count result.position result.before }

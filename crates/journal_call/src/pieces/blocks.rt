@@ -33,7 +33,7 @@ pub(crate) fn read_block(
     kinds: &mut [u8],
     from: usize,
     end: usize,
-) -> Piece
+) -> Piece<Option<Reason>>
     requires position_in_bounds { reader.now.position + 128 ≤ length reader.now.journal.now }
     requires from_le_end { (from ≤ end) × (end ≤ from + 32) }
     requires end_in_bounds { end ≤ length threads.old }

@@ -85,13 +85,19 @@ fn number_of(entered: u64, mark: u64) -> u64
     entered + 2 - mark
 }
 
+// Kept: five stores into the row, since `copy_from_slice` of five values goes through the stack and tests for an overlap.
 // Writes the five numbers of a row at a position.
 fn put_row(rows: &mut [u64], at: usize, attempts: u64, total: u64, most: u64)
     requires { at + 5 ≤ length rows.old }
     ensures { rows.new ≡ sets rows.old at (row_with attempts total most) }
 {
     let mean = crate::with_waits::mean_of(total, attempts);
-    rows[at..at + 5].copy_from_slice(&[attempts, total, most, mean.numerator, mean.denominator]);
+    let row = &mut rows[at..at + 5];
+    row[0] = attempts;
+    row[1] = total;
+    row[2] = most;
+    row[3] = mean.numerator;
+    row[4] = mean.denominator;
 }
 
 impl ThreadTally {

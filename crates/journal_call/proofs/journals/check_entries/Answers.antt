@@ -22,4 +22,4 @@ pub loop-reader-smaller : goal.loop-reader-smaller
 loop-reader-smaller c = let inv = c.loop-reader.invariant in
     let test = c.loop-reader-test.true in
     let turned = rw inv.0 at c.in_ok-check_piece.ensures.turned in
-    omega (arith, turned.0 test, test)
+    omega (arith, (turned.0 test).0, test)

@@ -4,7 +4,7 @@ use Prim.Native.Nat.{◌≤◌}
 use native.Mathlib.Omega.{arith}
 use lib.Dec.{lit≤}
 use lib.ListN.{length}
-use Rattle.journal_call.proofs.Journaling.{fronts_long, lowest_of_front, runs, further, differs, stops, turn}
+use Rattle.journal_call.proofs.Journaling.{fronts_long, lowest_of_front, runs, further, within, differs, stops, turn}
 use borrow.Author.Rules.{rules}
 use Rattle.journal_call.proofs.journals.check_piece.Goals as goal
 
@@ -36,7 +36,7 @@ returns-in-None c = let g = c.requires in
     record {
       journal_unchanged = refl;
       turned = (
-        λ more. further _ _ g.passes _ _ _ g _ _ _ piece c.in-None.is 1024 (lit≤ tt) (search rules) (search rules) more,
+        λ more. (further _ _ g.passes _ _ _ g _ _ _ piece c.in-None.is 1024 (lit≤ tt) (search rules) (search rules) more, within _ _ g.passes _ _ _ g _ _ _ piece more),
         turn _ _ g.passes _ _ _ g _ _ _ piece _ _ c.run_piece.ensures.codes_after room _ (lowest_of_front _ _ _ fit long _ c.in_default.ensures.lowest) (omega (arith, fronts_long _ _ _ fit long)) _ c.run_piece.ensures.words_after,
       );
     }
