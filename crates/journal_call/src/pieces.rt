@@ -41,7 +41,12 @@ fn read_next(
 }
 
 // Reads as many entries as the arrays hold from the reader on, up to the journal's end or the first entry that is refused; their threads and kinds go to the front of the arrays. Four or sixteen entries in a row with the same bit map are read at once, others one by one: four of them after such entries, since more may follow where a thread runs in bursts, and otherwise thirty-two.
-pub fn read_piece(reader: &Reader, known: u32, threads: &mut [u16], kinds: &mut [u8]) -> Piece<Option<Reason>>
+pub fn read_piece(
+    reader: &Reader,
+    known: u32,
+    threads: &mut [u16],
+    kinds: &mut [u8],
+) -> Piece<Option<Reason>>
     ensures { PieceRead known reader.now.journal.now reader.now.position reader.now.before threads.new kinds.new result }
 {
     let room = threads.len().min(kinds.len());

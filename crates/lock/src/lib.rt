@@ -29,7 +29,11 @@ pub struct TakenStep {
 fn first_of(number: u32, ticket_root: u32, start: u16) -> u16
     ensures { result ≡ first_number number ticket_root start }
 {
-    if number == 0 && ticket_root != 0 { start } else { 0 }
+    if number == 0 && ticket_root != 0 {
+        start
+    } else {
+        0
+    }
 }
 
 // Number and place of what the tests of a tree found.
